@@ -1,0 +1,6 @@
+pub mod Answered
+pub mod Canonical
+pub mod Factors
+pub mod Lookups
+pub mod Scaled
+pub mod Values

@@ -1,0 +1,4 @@
+pub mod Analog
+pub mod Least
+pub mod Readings
+pub mod Settings

@@ -1,0 +1,8 @@
+// What entries say, in words and in the units of the bench. It is only printed: nothing is decided here.
+pub mod decimal;
+pub mod entry;
+
+pub use decimal::Decimal;
+pub use decimal::DecimalDisplay;
+pub use entry::EntryText;
+pub use entry::EntryTextDisplay;

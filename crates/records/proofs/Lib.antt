@@ -1,0 +1,6 @@
+pub mod Codecs
+pub mod Fields
+pub mod Served
+pub mod Tested
+pub mod Whole
+pub mod Written

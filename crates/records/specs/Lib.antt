@@ -1,0 +1,6 @@
+pub mod Codecs
+pub mod Codes
+pub mod Numbers
+pub mod Services
+pub mod Tests
+pub mod Verdicts
