@@ -7,9 +7,19 @@ use comparison::packets::compare::compare_packets;
 use failure::Failure;
 use failure::FailureFromAlloc;
 use failure::FailureFromIo;
-use kind_analog::Analog;
 use kind_analog::AnalogKind;
-use records::registry::Single;
+use kind_bytes::LoggedEthernetKind;
+use kind_bytes::LoggedUartKind;
+use kind_can::LoggedCanFdKind;
+use kind_can::LoggedCanKind;
+use kind_can::ReplayCanFdKind;
+use kind_can::ReplayCanKind;
+use kind_flexray::LoggedFlexRayKind;
+use kind_flexray::ReplayFlexRayKind;
+use kind_lin::LoggedLinKind;
+use kind_lin::ReplayLinKind;
+use kinds::STANDARD;
+use records::registry::ChainRegistry;
 use records::registry::SingleRegistry;
 use std::env;
 use std::fs;
@@ -27,15 +37,14 @@ A refused packet is named with the refusal's number, its meaning and offset.
 Status: 0 for the same load; 1 for another, a refused packet or a file error.";
 
 fn compare(rt: &LibcRuntime, first: &str, second: &str) -> Result<(), Failure> {
-    let registry = Single { kind: Analog };
     let first_packet = read_file(rt, first)?;
     let second_packet = read_file(rt, second)?;
-    match compare_packets(&registry, &first_packet, &second_packet) {
+    match compare_packets(&STANDARD, &first_packet, &second_packet) {
         Err(RefusedPacket::First(refusal)) => report::print_refusal(rt, first, refusal),
         Err(RefusedPacket::Second(refusal)) => report::print_refusal(rt, second, refusal),
         Ok(comparison) => {
-            report::print_packet(rt, &registry, first, &first_packet)?;
-            report::print_packet(rt, &registry, second, &second_packet)?;
+            report::print_packet(rt, &STANDARD, first, &first_packet)?;
+            report::print_packet(rt, &STANDARD, second, &second_packet)?;
             report::print_verdict(rt, comparison)
         }
     }

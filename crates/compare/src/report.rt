@@ -34,7 +34,10 @@ pub fn print_packet<R: Registry>(
         let Ok(Some(read)) = read_entry(registry, packet, offset) else {
             break;
         };
-        let entry = EntryText { entry: read.entry };
+        let entry = EntryText {
+            registry,
+            entry: read.entry,
+        };
         println!(rt, "  entry {index}: {entry}")?;
         offset = read.next;
     }

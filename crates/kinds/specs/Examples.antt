@@ -9,11 +9,17 @@ use Rattle.std.specs.declared.option.Option.the-variants.{None}
 use Rattle.std.specs.declared.result.Result.the-variants.{Ok, Err}
 use Rattle.records.specs.Codecs.{verdictOf}
 use Rattle.tecmp.specs.Entries.{entries, counted}
-use Rattle.records.specs.Services.{Services, served}
+use Rattle.records.specs.Services.{Services, single}
 use Rattle.records.specs.Verdicts.{Verdict, refuses, accepts}
 use Rattle.records.specs.declared.refusal.RecordRefusal.the-variants.{Length, Setting}
 use Rattle.records.specs.declared.refusal.Refusal.the-variants.{Padding}
+use Rattle.frames.specs.Frames.{codec as frameCodec}
 use Rattle.kind_analog.specs.Analog.{codec}
+use Rattle.kind_bytes.specs.Examples.{BytesExamples}
+use Rattle.kind_can.specs.Can.{canShape, codeOf, loggedCan}
+use Rattle.kind_can.specs.Examples.{CanExamples}
+use Rattle.kind_flexray.specs.Examples.{FlexRayExamples}
+use Rattle.kind_lin.specs.Examples.{LinExamples}
 
 abbrev pub analog : ℕ → List ℕ → Verdict
 analog = verdictOf codec
@@ -33,11 +39,11 @@ AnalogExamples =
     × (analog 0x1084 (0 ∷ 50 ∷ 0 ∷ []) ≡ refuses Length)
     × (analog 0x0084 (0 ∷ 50 ∷ []) ≡ refuses Setting)
 
--- every code is served, every record accepted as it is
-abbrev pub anything : Services
-anything code = served true (λ f d. accepts [] f d)
+-- the registry of logged CAN
+abbrev pub justCan : Services
+justCan = single (codeOf loggedCan) true (verdictOf (frameCodec (canShape loggedCan)))
 
--- a logged packet of data type 2, of 43 bytes: one entry with 15 bytes of data
+-- a logged CAN packet of 43 bytes: one entry, 11-bit ID 0x7FF, eight bytes of payload
 abbrev pub packet43 : List ℕ
 packet43 =
     (0 ∷ 64 ∷ 0 ∷ 1 ∷ 3 ∷ 3 ∷ 0 ∷ 2 ∷ 0 ∷ 0 ∷ 0 ∷ 0x0F ∷ [])
@@ -47,8 +53,8 @@ packet43 =
 abbrev pub PacketExamples : Type 0
 PacketExamples =
     -- with 3 zeros it has 46 bytes, and reads to its end; with 4 it is refused at offset 43
-    (counted 0 (entries anything None (packet43 ++ replicate 3 0)) ≡ Ok 1)
-    × (entries anything None (packet43 ++ replicate 4 0) ≡ Err (Padding 43))
+    (counted 0 (entries justCan None (packet43 ++ replicate 3 0)) ≡ Ok 1)
+    × (entries justCan None (packet43 ++ replicate 4 0) ≡ Err (Padding 43))
 
 abbrev pub Examples : Type 0
-Examples = AnalogExamples × PacketExamples
+Examples = AnalogExamples × CanExamples × LinExamples × FlexRayExamples × BytesExamples × PacketExamples

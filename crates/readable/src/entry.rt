@@ -1,9 +1,6 @@
-use crate::decimal::Decimal;
-use crate::decimal::DecimalDisplay;
-use kind_analog::AnalogReading;
-use kind_analog::Unit;
-use kind_analog::read_analog;
-use records::code::MessageType;
+// An entry as one line: interface, time, and what its record says.
+use crate::record::write_record;
+use records::Registry;
 use std::fmt;
 use tecmp::entry::EntryView;
 use tecmp::entry::TIME_BITS;
@@ -13,13 +10,16 @@ const NOT_SYNCHRONIZED: u64 = 1 << 63;
 
 const RECALCULATED: u64 = 1 << 62;
 
-// An entry as one line: interface, time, and what its record says.
+// The longest data that a record kind accepts.
+const DATA_LIMIT: usize = 1472;
+
 #[derive(Clone, Copy)]
-pub struct EntryText<'p> {
+pub struct EntryText<'r, 'p, R> {
+    pub registry: &'r R,
     pub entry: EntryView<'p>,
 }
 
-pub impl fmt::Display for EntryText<'_> as EntryTextDisplay {
+pub impl<R: Registry> fmt::Display for EntryText<'_, '_, R> as EntryTextDisplay {
     fn fmt<W: fmt::Write>(&self, f: &mut fmt::Formatter<W>) -> fmt::Result {
         let entry = self.entry;
         let interface = entry.interface;
@@ -31,40 +31,26 @@ pub impl fmt::Display for EntryText<'_> as EntryTextDisplay {
         if entry.time & RECALCULATED != 0 {
             write!(f, " (recalculated)")?;
         }
-        match entry.code.message_type {
-            MessageType::LoggingStream => write_logged(f, entry),
-            MessageType::ReplayData => Ok(()),
-        }
+        let mut buffer = [0; DATA_LIMIT];
+        write_content(f, self.registry, entry, &mut buffer)
     }
 }
 
-fn write_logged<W: fmt::Write>(f: &mut fmt::Formatter<W>, entry: EntryView) -> fmt::Result {
-    match read_analog(entry.flags, entry.data) {
-        Ok(reading) => write_analog(f, reading),
+// The record as its canonical encoding has it, so that equal loads print alike.
+fn write_content<W: fmt::Write, R: Registry>(
+    f: &mut fmt::Formatter<W>,
+    registry: &R,
+    entry: EntryView,
+    buffer: &mut [u8],
+) -> fmt::Result {
+    let Ok(length) = registry.check(entry.code, entry.flags, entry.data) else {
+        return Ok(());
+    };
+    if length > buffer.len() {
+        return Ok(());
+    }
+    match registry.write(entry.code, entry.flags, entry.data, &mut buffer[0..length]) {
+        Ok(flags) => write_record(f, entry.code, flags, &buffer[0..length]),
         Err(_) => Ok(()),
-    }
-}
-
-fn write_analog<W: fmt::Write>(f: &mut fmt::Formatter<W>, reading: AnalogReading) -> fmt::Result {
-    let unit = symbol(reading.unit);
-    let ten_thousandths = reading.period.microseconds() as i32 * 10;
-    let period = Decimal { ten_thousandths };
-    write!(f, ", one sample every {period} ms:")?;
-    for index in 0..reading.len() {
-        if let Some(ten_thousandths) = reading.value(index) {
-            let value = Decimal { ten_thousandths };
-            write!(f, " {value} {unit}")?;
-        }
-    }
-    Ok(())
-}
-
-fn symbol(unit: Unit) -> &'static str {
-    match unit {
-        Unit::Volt => "V",
-        Unit::Ampere => "A",
-        Unit::Watt => "W",
-        Unit::AmpereHour => "Ah",
-        Unit::Celsius => "°C",
     }
 }

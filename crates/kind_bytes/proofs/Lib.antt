@@ -1,0 +1,3 @@
+pub mod Law
+pub mod Maps
+pub mod Written
