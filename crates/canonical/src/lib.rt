@@ -1,4 +1,6 @@
 // The canonical copy: open, add, take, close.
+#![tactic(auto)]
+
 mod bytes;
 pub mod copy;
 mod packet;

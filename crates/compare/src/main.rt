@@ -1,4 +1,6 @@
 // compare: reads two files, each one TECMP packet, prints what they say, and whether they hold the same load.
+#![tactic(auto)]
+
 mod failure;
 mod report;
 

@@ -1,4 +1,6 @@
 // Logged analog records: 1 to 700 signed samples of one unit, taken at one sample period.
+#![tactic(auto)]
+
 pub mod kind;
 pub mod reading;
 mod record;

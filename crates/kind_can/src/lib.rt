@@ -1,4 +1,6 @@
 // Logged and replay records of CAN and CAN-FD frames.
+#![tactic(auto)]
+
 mod frame;
 pub mod kind;
 

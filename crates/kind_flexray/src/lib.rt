@@ -1,4 +1,6 @@
 // FlexRay records: cycle, frame ID and a payload of up to 254 bytes; then logged two CRCs, in replay the cycle repetition and a CRC.
+#![tactic(auto)]
+
 mod frame;
 pub mod kind;
 

@@ -1,4 +1,6 @@
 // LIN records, logged and replay: an ID, a payload of up to eight bytes and a checksum.
+#![tactic(auto)]
+
 mod frame;
 pub mod kind;
 

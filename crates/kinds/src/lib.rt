@@ -1,4 +1,6 @@
 // All record kinds as one registry, what it serves, and worked examples.
+#![tactic(auto)]
+
 ghost use Rattle.kinds.specs.Examples.{Examples};
 
 pub mod standard;

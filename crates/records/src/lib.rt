@@ -1,4 +1,6 @@
 // What records are: codes, record kinds and registries of them, and the refusals of every call.
+#![tactic(auto)]
+
 pub mod bits;
 pub mod code;
 pub mod kind;

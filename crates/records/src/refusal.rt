@@ -1,9 +1,10 @@
 // Why a call refuses: one variant for each refusal number, with the offset where the refusal has one.
 pub mod text;
 
-ghost use Rattle.std.specs.Prelude.{◌≡◌, Decides};
+ghost use Rattle.std.specs.Prelude.{◌≡◌, Decides, nat_eq};
 ghost use Rattle.records.specs.Numbers.{number_of, offset_of, record_number, write_number, lookup_number};
 ghost use Rattle.std.specs.Cmp.Rules.{comparing};
+ghost use Rattle.std.specs.Ordering.{eq_of_both, on};
 ghost use Rattle.std.proofs.Common.{rules};
 ghost use Rattle.std.specs.Cmp as Keys;
 
@@ -74,11 +75,14 @@ impl Refusal {
 
 // Number and offset tell which refusal it is.
 impl PartialEq for Refusal {
-    ghost equals = { λ x y r. Decides r (x ≡ y) };
+    ghost eq = { eq_of_both (on number_of nat_eq) (on offset_of nat_eq) };
 
     ghost laws = { Keys.partial_equiv_from_equiv (Prim.search (comparing, rules)) };
 
-    fn eq(&self, other: &Refusal) -> bool {
+    fn eq(&self, other: &Refusal) -> bool
+        ensures value { result ≡ eq_of_both (on number_of nat_eq) (on offset_of nat_eq) self.now other.now }
+        ensures same { Decides result (self.now ≡ other.now) }
+    {
         self.number() == other.number() && self.offset() == other.offset()
     }
 }

@@ -4,6 +4,7 @@
 //   part KIND FLAGS BYTES N    write of a record into a part of N bytes
 //   compare BYTES BYTES        two packets
 // A line of another form is printed as it is.
+#![tactic(auto)]
 
 mod cases;
 mod hex;

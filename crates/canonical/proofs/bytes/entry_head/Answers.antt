@@ -3,4 +3,4 @@ use Rattle.canonical.proofs.bytes.entry_head.Goals as goal
 
 pub returns : goal.returns
 unfolding entry_head
-returns c = simp (c.to-be-bytes.ensures, c.to-be-bytes-2.ensures, c.to-be-bytes-3.ensures, c.to-be-bytes-4.ensures)
+returns c = simp (c.to_be_bytes.ensures, c.to_be_bytes-2.ensures, c.to_be_bytes-3.ensures, c.to_be_bytes-4.ensures)

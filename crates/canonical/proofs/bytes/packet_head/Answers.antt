@@ -3,4 +3,4 @@ use Rattle.canonical.proofs.bytes.packet_head.Goals as goal
 
 pub returns : goal.returns
 unfolding packet_head
-returns c = simp (c.to-be-bytes.ensures, c.to-be-bytes-2.ensures, c.to-be-bytes-3.ensures, c.to-be-bytes-4.ensures, c.counter-and-flags-counter.ensures.counter, c.counter-and-flags-counter.ensures.flags, c.number-message-type.ensures)
+returns c = simp (c.to_be_bytes.ensures, c.to_be_bytes-2.ensures, c.to_be_bytes-3.ensures, c.to_be_bytes-4.ensures, c.counter_and_flags-counter.ensures.counter, c.counter_and_flags-counter.ensures.flags, c.number-message_type.ensures)

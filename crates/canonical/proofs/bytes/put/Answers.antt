@@ -5,6 +5,6 @@ use Rattle.canonical.proofs.bytes.put.Goals as goal
 
 pub returns : goal.returns
 returns c =
-    let same = c.copy-from-slice.ensures.after in
-    put_is c.args.at (length c.args.bytes.now) c.args.out.now c.copy-from-slice.new.self (ap length same)
+    let same = c.copy_from_slice.ensures.after in
+    put_is c.args.at (length c.args.bytes.now) c.args.out.now c.copy_from_slice.new.self (ap length same)
     ∙ ap (spliced c.args.out.now c.args.at) same

@@ -5,4 +5,4 @@ use Rattle.canonical.proofs.Splices.{zeros_front}
 use Rattle.canonical.proofs.bytes.put_filling.Goals as goal
 
 pub returns : goal.returns
-returns c = c.put.ensures ∙ ap (spliced c.args.out.now c.args.at) (zeros_front c.filling-of-count.result (filling c.args.size) c.filling-of-count.ensures (omega arith))
+returns c = c.put.ensures ∙ ap (spliced c.args.out.now c.args.at) (zeros_front c.filling_of-count.result (filling c.args.size) c.filling_of-count.ensures (omega arith))

@@ -5,4 +5,4 @@ use Rattle.canonical.proofs.bytes.put_packet_word.Goals as goal
 
 pub returns : goal.returns
 unfolding word
-returns c = c.put.ensures ∙ ap (spliced c.args.out.now c.args.at) c.to-be-bytes.ensures
+returns c = c.put.ensures ∙ ap (spliced c.args.out.now c.args.at) c.to_be_bytes.ensures

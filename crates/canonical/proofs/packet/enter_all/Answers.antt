@@ -6,8 +6,8 @@ pub loop-read-init : goal.loop-read-init
 loop-read-init g c = ?
 
 -- src/packet.rt:66:13
-pub canonical-length-count-requires : goal.canonical-length-count-requires
-canonical-length-count-requires g c = ?
+pub canonical_length-count-requires : goal.canonical_length-count-requires
+canonical_length-count-requires g c = ?
 
 -- src/packet.rt:67:24
 pub enter-state-requires : goal.enter-state-requires

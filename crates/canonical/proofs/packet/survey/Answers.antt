@@ -11,7 +11,7 @@ use Rattle.canonical.proofs.packet.survey.Goals as goal
 
 -- what was read
 was : (g : given.Over) (c : goal.In-Some g) → inside (g.R.Registry.services c.args.registry.now) c.args.head c.args.packet.now c.loop-read.next ≡ Ok (Some (read_as c.in-Some.read))
-was g c = sym c.in-ok-read.ensures ∙ ap (λ o. Ok (found o)) c.in-Some.is
+was g c = sym c.in_ok-read.ensures ∙ ap (λ o. Ok (found o)) c.in-Some.is
 
 is : (g : given.Over) (c : goal.In-Some g) → Entered (g.R.Registry.services c.args.registry.now) c.args.head c.args.packet.now c.loop-read.next (read_as c.in-Some.read)
 is g c = entered _ _ _ _ _ (was g c)
@@ -19,11 +19,11 @@ is g c = entered _ _ _ _ _ (was g c)
 pub loop-read-init : goal.loop-read-init
 loop-read-init g c = (refl, c.requires.0, omega arith, omega arith)
 
-pub returns-in-err-read : goal.returns-in-err-read
-returns-in-err-read g c = ?
+pub returns-in_err-read : goal.returns-in_err-read
+returns-in_err-read g c = ?
 
-pub canonical-length-count-requires : goal.canonical-length-count-requires
-canonical-length-count-requires g c = entered_accepted _ _ _ _ _ (is g c)
+pub canonical_length-count-requires : goal.canonical_length-count-requires
+canonical_length-count-requires g c = entered_accepted _ _ _ _ _ (is g c)
 
 pub extend-reached-requires : goal.extend-reached-requires
 extend-reached-requires g c = ?

@@ -5,8 +5,8 @@ use Rattle.frames.specs.Frames.{codec, flags_read, framed_on, bytes_of}
 use Rattle.frames.proofs.Law.{sound, size}
 use Rattle.frames.proofs.record.write_canonical.Goals as goal
 
-pub write-read-requires : goal.write-read-requires
-write-read-requires g c =
+pub write_read-requires : goal.write_read-requires
+write_read-requires g c =
     let s = g.F.Frame.shape c.args.frame.now in
     let ok = g.met.F.Frame.shapely c.args.frame.now in
     let f = c.args.flags in
@@ -24,5 +24,5 @@ returns g c =
     let e = encodes (codec s) (sound s ok) f d a.0 in
     record {
       answer = ap (bit_and f) c.mask.ensures ∙ e.0;
-      part = c.write-read.ensures ∙ ap (λ m. bytes_of s (framed_on s (bit_and f m) d)) c.mask.ensures ∙ e.1;
+      part = c.write_read.ensures ∙ ap (λ m. bytes_of s (framed_on s (bit_and f m) d)) c.mask.ensures ∙ e.1;
     }

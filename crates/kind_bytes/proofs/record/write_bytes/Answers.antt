@@ -18,6 +18,6 @@ pub returns-in-Ok-2 : goal.returns-in-Ok-2
 returns-in-Ok-2 c =
     let v = verdict_of (codec (layout_of c.args.content)) c.args.flags c.args.data.now in
     record {
-      answer = ap Ok c.write-canonical.ensures.answer ∙ written_all v c.in-Ok.length (length c.args.part.now) c.in-Ok.ensures (omega arith);
-      part = c.write-canonical.ensures.part;
+      answer = ap Ok c.write_canonical.ensures.answer ∙ written_all v c.in-Ok.length (length c.args.part.now) c.in-Ok.ensures (omega arith);
+      part = c.write_canonical.ensures.part;
     }

@@ -5,11 +5,11 @@ use Rattle.tecmp.proofs.head.split_head.Goals as goal
 pub returns : goal.returns
 returns c = record {
   long = omega (arith, ltb-false);
-  device_id_is = c.from-be-bytes.ensures;
-  counter_is = c.from-be-bytes-2.ensures;
+  device_id_is = c.from_be_bytes.ensures;
+  counter_is = c.from_be_bytes-2.ensures;
   version_is = refl;
   type_byte_is = refl;
-  data_type_is = c.from-be-bytes-3.ensures;
-  device_flags_is = c.from-be-bytes-4.ensures;
+  data_type_is = c.from_be_bytes-3.ensures;
+  device_flags_is = c.from_be_bytes-4.ensures;
   entries = take_rest c.args.packet.now 12;
 }

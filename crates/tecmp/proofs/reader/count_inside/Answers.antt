@@ -8,13 +8,13 @@ use Rattle.tecmp.proofs.reader.count_inside.Goals as goal
 
 -- what was read
 was : (g : given.Over) (c : goal.In-Some g) → inside (g.R.Registry.services c.args.registry.now) c.args.head c.args.packet.now c.loop-read.next ≡ Ok (Some (read_as c.in-Some.read))
-was g c = sym c.in-ok-read.ensures ∙ ap (λ o. Ok (found o)) c.in-Some.is
+was g c = sym c.in_ok-read.ensures ∙ ap (λ o. Ok (found o)) c.in-Some.is
 
 is : (g : given.Over) (c : goal.In-Some g) → Entered (g.R.Registry.services c.args.registry.now) c.args.head c.args.packet.now c.loop-read.next (read_as c.in-Some.read)
 is g c = entered _ _ _ _ _ (was g c)
 
-pub overflow-add-count : goal.overflow-add-count
-overflow-add-count g c = let i = is g c in omega (arith, i.ahead, i.within)
+pub overflow_add-count : goal.overflow_add-count
+overflow_add-count g c = let i = is g c in omega (arith, i.ahead, i.within)
 
 pub loop-read-smaller : goal.loop-read-smaller
 loop-read-smaller g c = let i = is g c in omega (arith, i.ahead, i.within)

@@ -12,4 +12,4 @@ returns g c =
     let code = c.args.head.code in
     let service = g.R.Registry.services c.args.registry.now code in
     let within : (leb 12 offset && leb offset (length packet)) ≡ true = grind (arith, nat_tests) in
-    passes _ _ _ _ within (c.read-rest.ensures ∙ ap (of_rest service c.args.head.shares code (length packet) offset) (take_rest packet offset))
+    passes _ _ _ _ within (c.read_rest.ensures ∙ ap (of_rest service c.args.head.shares code (length packet) offset) (take_rest packet offset))

@@ -9,6 +9,6 @@ returns g c =
     let rest = c.args.rest.now in
     let some : eqb (length rest) 0 ≡ false = grind (arith, nat_tests) in
     let after_first : ltb 12 c.args.offset ≡ true = grind (arith, nat_tests) in
-    let no-padding : zeros rest ≡ false = sym c.if-all-zero.ensures in
+    let no-padding : zeros rest ≡ false = sym c.if-all_zero.ensures in
     let shares : c.args.head.shares ≡ true = grind (arith, nat_tests) in
-    fails _ _ _ _ some (passes _ _ _ _ after_first (fails _ _ _ _ no-padding (passes _ _ _ _ shares c.read-here-2.ensures)))
+    fails _ _ _ _ some (passes _ _ _ _ after_first (fails _ _ _ _ no-padding (passes _ _ _ _ shares c.read_here-2.ensures)))
