@@ -47,8 +47,8 @@ pub(crate) fn same_sense<R: Registry>(
     other_flags: u16,
     other_data: &[u8],
 ) -> bool
-    requires data_value { is_ok (checked_by (R.Registry.services registry.now code) flags «data».now) ≡ true }
-    requires other_data_value { is_ok (checked_by (R.Registry.services registry.now code) other_flags other_data.now) ≡ true }
+    requires accepted { is_ok (checked_by (R.Registry.services registry.now code) flags «data».now) ≡ true }
+    requires other_accepted { is_ok (checked_by (R.Registry.services registry.now code) other_flags other_data.now) ≡ true }
     ensures { Decides result (sense_by (R.Registry.services registry.now code) flags «data».now ≡ sense_by (R.Registry.services registry.now code) other_flags other_data.now) }
 {
     let mut buffer = [0; DATA_LIMIT];

@@ -14,8 +14,8 @@ use tecmp::reader::{FIRST_ENTRY, count_entries, read_entry};
 
 // The first field in which two accepted entries differ.
 fn first_difference<R: Registry>(registry: &R, first: EntryView, second: EntryView) -> Option<Field>
-    requires data_value { is_ok (checked_by (R.Registry.services registry.now first.code) first.flags first.«data».now) ≡ true }
-    requires data_value_2 { is_ok (checked_by (R.Registry.services registry.now second.code) second.flags second.«data».now) ≡ true }
+    requires first { is_ok (checked_by (R.Registry.services registry.now first.code) first.flags first.«data».now) ≡ true }
+    requires second { is_ok (checked_by (R.Registry.services registry.now second.code) second.flags second.«data».now) ≡ true }
     ensures { Differs (stated (R.Registry.services registry.now) (viewed first.entry)) (stated (R.Registry.services registry.now) (viewed second.entry)) result }
 {
     if first.code != second.code {
@@ -46,8 +46,8 @@ fn compare_entries<R: Registry>(
     first: &[u8],
     second: &[u8],
 ) -> Result<Comparison, RefusedPacket>
-    requires first_value { is_ok (entries (R.Registry.services registry.now) None first.now) ≡ true }
-    requires second_value { is_ok (entries (R.Registry.services registry.now) None second.now) ≡ true }
+    requires first { is_ok (entries (R.Registry.services registry.now) None first.now) ≡ true }
+    requires second { is_ok (entries (R.Registry.services registry.now) None second.now) ≡ true }
     ensures { Compared (R.Registry.services registry.now) first.now second.now result }
 {
     let mut offset = FIRST_ENTRY;
