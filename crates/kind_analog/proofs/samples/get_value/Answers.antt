@@ -12,6 +12,6 @@ returns-then-index-data c =
 
 pub returns : goal.returns
 returns c =
-    let fits : SFits w32 c.value-at.result = record { sfits = c.value-at.type-inv } in
+    let fits : SFits w32 c.value_at.result = record { sfits = c.value_at.type_inv } in
     let in' = value_in c.args.step c.args.data.now c.args.index (omega arith) in
-    ap Some (to_z-of_z w32 _ fits ∙ c.value-at.ensures) ∙ sym in'
+    ap Some (to_z-of_z w32 _ fits ∙ c.value_at.ensures) ∙ sym in'

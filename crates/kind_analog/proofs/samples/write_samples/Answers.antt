@@ -5,10 +5,10 @@ use Rattle.kind_analog.specs.Places.{value_at}
 use Rattle.kind_analog.specs.ValuesLemmas.{values_more, values_done, take_two}
 use Rattle.kind_analog.proofs.samples.write_samples.Goals as goal
 
-pub write-sample-requires : goal.write-sample-requires
-write-sample-requires c =
+pub write_sample-requires : goal.write_sample-requires
+write_sample-requires c =
     let f = subst (Fitting c.args.canonical) (values_more c.args.step c.args.data.now c.loop-i.i (omega arith)) c.loop-i.invariant.0 in
-    ((omega arith, omega arith), (omega arith, omega arith), f.0)
+    record { step_bound = (omega arith, omega arith); index_in_bounds = (omega arith, omega arith); fits_signed = f.0 }
 
 pub loop-i-preserved : goal.loop-i-preserved
 loop-i-preserved c =
@@ -20,7 +20,7 @@ loop-i-preserved c =
     let bytes = sample_bytes (quot_z (value_at c.args.step c.args.data.now i) (pos to)) in
     let two = take_two c.loop-i.part bytes i (omega arith) in (
       (subst (Fitting to) more c.loop-i.invariant.0).1,
-      ap (λ p. take ((i + 1) * 2) p ++ samples_of to rest) c.write-sample.ensures
+      ap (λ p. take ((i + 1) * 2) p ++ samples_of to rest) c.write_sample.ensures
           ∙ ap (λ t. t ++ samples_of to rest) two
           ∙ append_assoc front bytes (samples_of to rest)
           ∙ ap (λ v. front ++ samples_of to v) (sym more)
