@@ -8,6 +8,7 @@ use comparison::RefusedPacket;
 use comparison::packets::compare::compare_packets;
 use failure::Failure;
 use kinds::Standard;
+use std::process::ExitCode;
 use std::{env, fs};
 
 const USAGE: &str = "usage: compare FIRST SECOND";
@@ -46,10 +47,10 @@ fn read_file(rt: &HostRuntime, name: &str) -> Result<Vec<u8>, Failure> {
     }
 }
 
-fn main(rt: HostRuntime) -> Result<(), Failure> {
-    let args: Vec<String> = env::args(&rt)?.collect(rt.alloc())?;
+fn run(rt: &HostRuntime) -> Result<(), Failure> {
+    let args: Vec<String> = env::args(rt)?.collect(rt.alloc())?;
     match args.as_slice() {
-        [_, first, second] => compare(&rt, first.as_str(), second.as_str()),
+        [_, first, second] => compare(rt, first.as_str(), second.as_str()),
         [_, option] if option.as_str() == "--help" => {
             println!(rt; "{HELP}")?;
             Ok(())
@@ -58,5 +59,13 @@ fn main(rt: HostRuntime) -> Result<(), Failure> {
             eprintln!(rt; "{USAGE}")?;
             Err(Failure::Usage)
         }
+    }
+}
+
+// What is wrong has been said by then, so the error itself is not printed.
+fn main(rt: HostRuntime) -> ExitCode {
+    match run(&rt) {
+        Ok(()) => ExitCode::SUCCESS,
+        Err(_) => ExitCode::FAILURE,
     }
 }
