@@ -6,15 +6,15 @@ use Rattle.records.specs.declared.code.Code.{Code}
 use Rattle.tecmp.specs.declared.head.Head.{Head}
 use Rattle.records.specs.declared.refusal.Refusal.{Refusal}
 use Rattle.records.specs.declared.refusal.Refusal.TheVariants.{PastEnd, NotShared, Padding}
-use Rattle.tecmp.specs.Entries.{Entries, before, onward, walked, entries_from, entries_at, counted, ByReading}
-use Rattle.tecmp.specs.Layout.{zeros, data_length}
-use Rattle.tecmp.specs.Reading.{Entry, Found, Answer, entry_tests, found_of, here, of_rest, inside, head_reading, reading}
-use Rattle.records.specs.Services.{Services, Service, checked_by}
-use Rattle.records.specs.Tests.{tested, and_then, Passed}
-use Rattle.records.proofs.Tested.{passed}
+use Rattle.tecmp.specs.Entries.{Entries, before, onward, walked_by, entries_by, entries_from, entries_at, counted, ByReading}
+use Rattle.tecmp.specs.Layout.{zeros, data_length, code_of}
+use Rattle.tecmp.specs.Reading.{Entry, Found, Answer, head_tests, head_of, head_reading, entry_tests, found_of, here, of_rest_by, inside_by, inside, reading}
+use Rattle.records.specs.Services.{Services, Service, shares_in, checked_by}
+use Rattle.records.specs.Tests.{tested, Passed}
+use Rattle.records.proofs.Tested.{passed, tested_ok, tested_err}
 
 -- an entry is found only where its own tests pass
-rest_found : (v : Service) (shares : Bool) (code : Code) (n at : ℕ) (t : List ℕ) (f : Found) → of_rest v shares code n at t ≡ Ok (Some f) → here v code at t ≡ Ok (Some f)
+rest_found : (v : Service) (shares : Bool) (code : Code) (n at : ℕ) (t : List ℕ) (f : Found) → of_rest_by v shares code n at t ≡ Ok (Some f) → here v code at t ≡ Ok (Some f)
 rest_found v shares code n at t f = go (eqb (length t) 0) (ltb 12 at) (zeros t) (leb n 46) shares
   where
     go : (a b z l s : Bool) → cond a (Ok None) (cond b (cond z (cond l (Ok None) (Err (Padding at))) (cond s (here v code at t) (Err (NotShared at)))) (here v code at t)) ≡ Ok (Some f) → here v code at t ≡ Ok (Some f)
@@ -35,19 +35,17 @@ bounds_within : (at z n l d : ℕ) → n ≡ at + 16 + z → d ≡ l - at → at
 bounds_within at z n l d e f h i = omega arith
 
 -- what is known of an entry that was found
-pub record Entered (services : Services) (head : Head) (s : List ℕ) (at : ℕ) (f : Found) : Type 0 where
+pub record Entered (v : Service) (code : Code) (s : List ℕ) (at : ℕ) (f : Found) : Type 0 where
   pub low : 12 ≤ at
-  pub tests : Passed (entry_tests (services head.code) head.code at (drop at s))
-  pub is : f ≡ found_of head.code at (drop at s)
+  pub tests : Passed (entry_tests v code at (drop at s))
+  pub is : f ≡ found_of code at (drop at s)
   pub ahead : at + 16 < f.next
   pub within : f.next ≤ length s
 
-pub entered : (services : Services) (head : Head) (s : List ℕ) (at : ℕ) (f : Found) → inside services head s at ≡ Ok (Some f) → Entered services head s at f
-entered services head s at f e =
-    let code = head.code in
-    let v = services code in
-    let a = passed ((leb 12 at && leb at (length s), PastEnd at) ∷ []) (of_rest v head.shares code (length s) at (drop at s)) (Some f) e in
-    let b = passed (entry_tests v code at (drop at s)) (Ok (Some (found_of code at (drop at s)))) (Some f) (rest_found v head.shares code (length s) at (drop at s) f a.1) in
+pub entered : (v : Service) (shares : Bool) (code : Code) (s : List ℕ) (at : ℕ) (f : Found) → inside_by v shares code s at ≡ Ok (Some f) → Entered v code s at f
+entered v shares code s at f e =
+    let a = passed ((leb 12 at && leb at (length s), PastEnd at) ∷ []) (of_rest_by v shares code (length s) at (drop at s)) (Some f) e in
+    let b = passed (entry_tests v code at (drop at s)) (Ok (Some (found_of code at (drop at s)))) (Some f) (rest_found v shares code (length s) at (drop at s) f a.1) in
     let i = some_eq f (found_of code at (drop at s)) b.1 in
     let w = and_parts (leb 12 at) (leb at (length s)) a.0.0 in
     let l : length (drop at s) ≡ length s - at = length-drop at s in
@@ -59,9 +57,9 @@ entered services head s at f e =
     record { low = low; tests = b.0; is = i; ahead = bounds_ahead at (data_length (drop at s)) f.next n some; within = bounds_within at (data_length (drop at s)) f.next (length s) (length (drop at s)) n l high fits }
 
 -- the kind accepts it
-pub entered_accepted : (services : Services) (head : Head) (s : List ℕ) (at : ℕ) (f : Found) → Entered services head s at f
+pub entered_accepted : (services : Services) (code : Code) (s : List ℕ) (at : ℕ) (f : Found) → Entered (services code) code s at f
     → is_ok (checked_by (services f.entry.code) f.entry.flags f.entry.bytes) ≡ true
-entered_accepted services head s at f i =
+entered_accepted services code s at f i =
     subst (λ (g : Found). is_ok (checked_by (services g.entry.code) g.entry.flags g.entry.bytes) ≡ true) (sym i.is) i.tests.1.1.1.1.0
 
 onward_same : (a : Answer) (g h : ℕ → Entries) → ((f : Found) → a ≡ Ok (Some f) → g f.next ≡ h f.next) → onward a g ≡ onward a h
@@ -69,8 +67,8 @@ onward_same (Err w) g h e = refl
 onward_same (Ok None) g h e = refl
 onward_same (Ok (Some f)) g h e = ap (before f.entry) (e f refl)
 
-module _ (services : Services) (head : Head) (s : List ℕ) where
-  skip : (k n : ℕ) → walked services head s k n ≡ walked services head s 0 (n - k)
+module _ (v : Service) (shares : Bool) (code : Code) (s : List ℕ) where
+  skip : (k n : ℕ) → walked_by v shares code s k n ≡ walked_by v shares code s 0 (n - k)
   skip zero n = let z : n - 0 ≡ n = omega arith in rw z
   skip (suc k) zero = let z : 0 - suc k ≡ 0 = omega arith in rw z
   skip (suc k) (suc n) = let z : suc n - suc k ≡ n - k = omega arith in rw z (skip k n)
@@ -78,30 +76,30 @@ module _ (services : Services) (head : Head) (s : List ℕ) where
   lengths : (at n next l : ℕ) → at + suc n ≡ l → at + 16 < next → next ≤ l → n - (next - (at + 1)) ≡ l - next
   lengths at n next l e h i = omega arith
 
-  ends : 12 ≤ length s → inside services head s (length s) ≡ Ok None
+  ends : 12 ≤ length s → inside_by v shares code s (length s) ≡ Ok None
   ends h = let l = length-drop (length s) s in grind (arith, nat_tests)
 
-  walks_on : (n at : ℕ) → at + n ≡ length s → 12 ≤ at → walked services head s 0 n ≡ entries_from services head s at
+  walks_on : (n at : ℕ) → at + n ≡ length s → 12 ≤ at → walked_by v shares code s 0 n ≡ entries_by v shares code s at
   walks_on zero at e h =
       let z : at ≡ length s = omega arith in
-      ap (λ a. onward a (λ next. walked services head s 0 (length s - next))) (sym (ends (omega arith))) ∙ ap (entries_from services head s) (sym z)
+      ap (λ a. onward a (λ next. walked_by v shares code s 0 (length s - next))) (sym (ends (omega arith))) ∙ ap (entries_by v shares code s) (sym z)
   walks_on (suc n) at e h =
       let z : length s - suc n ≡ at = omega arith in
       let y : length s - n ≡ at + 1 = omega arith in
-      ap (λ a. onward (inside services head s a) (λ next. walked services head s (next - (length s - n)) n)) z
-      ∙ ap (λ b. onward (inside services head s at) (λ next. walked services head s (next - b) n)) y
-      ∙ onward_same (inside services head s at) (λ next. walked services head s (next - (at + 1)) n) (λ next. walked services head s 0 (length s - next))
-      (λ f q. let i = entered services head s at f q in skip (f.next - (at + 1)) n ∙ ap (walked services head s 0) (lengths at n f.next (length s) e i.ahead i.within))
+      ap (λ a. onward (inside_by v shares code s a) (λ next. walked_by v shares code s (next - (length s - n)) n)) z
+      ∙ ap (λ b. onward (inside_by v shares code s at) (λ next. walked_by v shares code s (next - b) n)) y
+      ∙ onward_same (inside_by v shares code s at) (λ next. walked_by v shares code s (next - (at + 1)) n) (λ next. walked_by v shares code s 0 (length s - next))
+      (λ f q. let i = entered v shares code s at f q in skip (f.next - (at + 1)) n ∙ ap (walked_by v shares code s 0) (lengths at n f.next (length s) e i.ahead i.within))
 
   -- an offset's entries are the one there and those from the next offset on
-  pub entries_on : (at : ℕ) → entries_from services head s at ≡ onward (inside services head s at) (entries_from services head s)
+  pub entries_on : (at : ℕ) → entries_by v shares code s at ≡ onward (inside_by v shares code s at) (entries_by v shares code s)
   entries_on at =
-      onward_same (inside services head s at) (λ next. walked services head s 0 (length s - next)) (entries_from services head s)
-      (λ f q. let i = entered services head s at f q in walks_on (length s - f.next) f.next (omega (arith, i.within)) (omega (arith, i.low, i.ahead)))
+      onward_same (inside_by v shares code s at) (λ next. walked_by v shares code s 0 (length s - next)) (entries_by v shares code s)
+      (λ f q. let i = entered v shares code s at f q in walks_on (length s - f.next) f.next (omega (arith, i.within)) (omega (arith, i.low, i.ahead)))
 
   -- one entry further
-  pub further : (at : ℕ) (f : Found) → inside services head s at ≡ Ok (Some f) → entries_from services head s at ≡ before f.entry (entries_from services head s f.next)
-  further at f e = entries_on at ∙ ap (λ a. onward a (entries_from services head s)) e
+  pub further : (at : ℕ) (f : Found) → inside_by v shares code s at ≡ Ok (Some f) → entries_by v shares code s at ≡ before f.entry (entries_by v shares code s f.next)
+  further at f e = entries_on at ∙ ap (λ a. onward a (entries_by v shares code s)) e
 
 pub counted_more : (n : ℕ) (e : Entry) (es : Entries) → counted n (before e es) ≡ counted (n + 1) es
 counted_more n e (Ok es) = let z : n + suc (length es) ≡ n + 1 + length es = omega arith in ap Ok z
@@ -115,14 +113,16 @@ pub counted_ok : (n : ℕ) (es : Entries) (k : ℕ) → Ok k ≡ counted n es �
 counted_ok n (Ok es) k e = refl
 counted_ok n (Err v) k e = let z : ◌≡◌ {A = ℕ} 0 1 = cc in absurd (omega arith)
 
--- a head that passes, passes for every offset
-head_onward : (services : Services) (s : List ℕ) (r : Result Head Refusal) (at : ℕ)
-    → and_then r (λ head. entries_from services head s at) ≡ onward (and_then r (λ head. inside services head s at)) (λ next. and_then r (λ head. entries_from services head s next))
-head_onward services s (Ok head) at = entries_on services head s at
-head_onward services s (Err w) at = refl
+-- a row of tests that passes, passes for every offset
+tests_onward : (services : Services) (s : List ℕ) (ts : List (Bool × Refusal)) (at : ℕ)
+    → tested ts (entries_from (services (code_of s)) (code_of s) s at)
+    ≡ onward (tested ts (inside (services (code_of s)) (code_of s) s at)) (λ next. tested ts (entries_from (services (code_of s)) (code_of s) s next))
+tests_onward services s [] at = let v = services (code_of s) in entries_on v (shares_in v) (code_of s) s at
+tests_onward services s ((true, w) ∷ ts) at = tests_onward services s ts at
+tests_onward services s ((false, w) ∷ ts) at = refl
 
 pub by_reading : ByReading
-by_reading services s = (refl, head_onward services s (head_reading services None s))
+by_reading services s = (refl, tests_onward services s (head_tests services None s))
 
 -- what is known of an entry that was read
 pub record Read (services : Services) (s : List ℕ) (at : ℕ) (f : Found) : Type 0 where
@@ -131,19 +131,26 @@ pub record Read (services : Services) (s : List ℕ) (at : ℕ) (f : Found) : Ty
   pub accepted : is_ok (checked_by (services f.entry.code) f.entry.flags f.entry.bytes) ≡ true
   pub rest : entries_at services s at ≡ before f.entry (entries_at services s f.next)
 
--- the head by which it was read
-by_head : (services : Services) (s : List ℕ) (at : ℕ) (f : Found) (r : Result Head Refusal) → and_then r (λ head. inside services head s at) ≡ Ok (Some f)
-    → (head : Head) × (inside services head s at ≡ Ok (Some f))
-by_head services s at f (Ok head) e = (head, e)
-by_head services s at f (Err w) e = let z : ◌≡◌ {A = ℕ} 0 1 = cc in absurd (omega arith)
-
 pub was_read : (services : Services) (s : List ℕ) (at : ℕ) (f : Found) → reading services s at ≡ Ok (Some f) → Read services s at f
 was_read services s at f e =
-    let h = by_head services s at f (head_reading services None s) e in
-    let i = entered services h.0 s at f h.1 in
+    let code = code_of s in
+    let v = services code in
+    let p = passed (head_tests services None s) (inside v code s at) (Some f) e in
+    let i = entered v (shares_in v) code s at f p.1 in
     record {
       ahead = i.ahead;
       within = i.within;
-      accepted = entered_accepted services h.0 s at f i;
+      accepted = entered_accepted services code s at f i;
       rest = (by_reading services s).1 at ∙ ap (λ a. onward a (entries_at services s)) e;
     }
+
+-- after the head's tests comes what its head gives; a head that is refused refuses all
+pub by_head : {A : Type 0} (services : Services) (s : List ℕ) (next : Head → Result A Refusal) (head : Head)
+    → Ok head ≡ head_reading services None s → next head ≡ tested (head_tests services None s) (next (head_of services s))
+by_head services s next head e =
+    let t = tested_ok (head_tests services None s) head (head_of services s) (next (head_of services s)) e in
+    ap next t.1 ∙ sym t.0
+
+pub no_head : {A : Type 0} (services : Services) (s : List ℕ) (r : Result A Refusal) (w : Refusal)
+    → Err w ≡ head_reading services None s → Err w ≡ tested (head_tests services None s) r
+no_head services s r w e = tested_err (head_tests services None s) w (head_of services s) r e

@@ -1,11 +1,12 @@
 -- All entries of a packet.
-use Rattle.std.specs.Prelude.{◌≡◌, ℕ, zero, suc, ◌+◌, ◌-◌, List, [], ◌∷◌, length, Some, None, Ok, Err, Option, Result}
-use Rattle.tecmp.specs.declared.head.Head.{Head}
+use Rattle.std.specs.Prelude.{◌≡◌, ℕ, zero, suc, ◌+◌, ◌-◌, Bool, List, [], ◌∷◌, length, Some, None, Ok, Err, Option, Result}
+use Rattle.records.specs.declared.code.Code.{Code}
 use Rattle.tecmp.specs.declared.head.Stream.{Stream}
 use Rattle.records.specs.declared.refusal.Refusal.{Refusal}
-use Rattle.tecmp.specs.Reading.{Entry, Found, Answer, head_reading, inside, reading}
-use Rattle.records.specs.Services.{Services}
-use Rattle.records.specs.Tests.{and_then}
+use Rattle.tecmp.specs.Layout.{code_of}
+use Rattle.tecmp.specs.Reading.{Entry, Found, Answer, head_tests, inside_by, reading}
+use Rattle.records.specs.Services.{Services, Service, shares_in}
+use Rattle.records.specs.Tests.{tested}
 
 abbrev pub Entries : Type 0
 Entries = Result (List Entry) Refusal
@@ -20,19 +21,28 @@ onward (Err refusal) rest = Err refusal
 onward (Ok None) rest = Ok []
 onward (Ok (Some f)) rest = before f.entry (rest f.next)
 
-module _ (services : Services) (head : Head) (s : List ℕ) where
+module _ (service : Service) (shares : Bool) (code : Code) (s : List ℕ) where
   -- from n bytes before the end on, after k bytes that an entry has taken
+  abbrev pub walked_by : ℕ → ℕ → Entries
+  walked_by k zero = Ok []
+  walked_by (suc k) (suc n) = walked_by k n
+  walked_by zero (suc n) = onward (inside_by service shares code s (length s - suc n)) (λ next. walked_by (next - (length s - n)) n)
+
+  -- from an offset on, by what the head says
+  abbrev pub entries_by : ℕ → Entries
+  entries_by at = onward (inside_by service shares code s at) (λ next. walked_by 0 (length s - next))
+
+-- the same of a packet whose head has passed
+module _ (service : Service) (code : Code) (s : List ℕ) where
   abbrev pub walked : ℕ → ℕ → Entries
-  walked k zero = Ok []
-  walked (suc k) (suc n) = walked k n
-  walked zero (suc n) = onward (inside services head s (length s - suc n)) (λ next. walked (next - (length s - n)) n)
+  walked k n = walked_by service (shares_in service) code s k n
 
   abbrev pub entries_from : ℕ → Entries
-  entries_from at = onward (inside services head s at) (λ next. walked 0 (length s - next))
+  entries_from at = entries_by service (shares_in service) code s at
 
 -- of a packet, of the stream that is asked for, if one is: all entries, or the first refusal
 abbrev pub entries : Services → Option Stream → List ℕ → Entries
-entries services stream s = and_then (head_reading services stream s) (λ head. entries_from services head s 12)
+entries services stream s = tested (head_tests services stream s) (entries_from (services (code_of s)) (code_of s) s 12)
 
 abbrev pub counted : ℕ → Entries → Result ℕ Refusal
 counted n (Ok es) = Ok (n + length es)
@@ -40,7 +50,7 @@ counted n (Err refusal) = Err refusal
 
 -- from an offset on, of a packet alone
 abbrev pub entries_at : Services → List ℕ → ℕ → Entries
-entries_at services s at = and_then (head_reading services None s) (λ head. entries_from services head s at)
+entries_at services s at = tested (head_tests services None s) (entries_from (services (code_of s)) (code_of s) s at)
 
 -- the entries of a packet are what reading gives at 12, then at the next offset, and so on to the end
 abbrev pub ByReading : Type 0

@@ -10,7 +10,7 @@ use Rattle.records.specs.declared.refusal.Refusal.TheVariants.{PacketTooShort, T
 use Rattle.tecmp.specs.Heads.{head_from, of_type, of_module}
 use Rattle.tecmp.specs.Layout.{zeros, device_id, counter, version, type_byte, device_flags, message_type, code_of, interface_id, time_word, data_length, data_flags, content, time_of, has_time}
 use Rattle.records.specs.Services.{Services, Service, is_served, shares_in, checked_by}
-use Rattle.records.specs.Tests.{tested, and_then}
+use Rattle.records.specs.Tests.{tested}
 
 abbrev pub is_logged : List ℕ → Bool
 is_logged s = type_byte s == 3
@@ -76,21 +76,31 @@ abbrev pub here : Service → Code → ℕ → List ℕ → Answer
 here service code at t = tested (entry_tests service code at t) (Ok (Some (found_of code at t)))
 
 -- after the first entry, in a packet of n bytes: padding, or one more entry where the code shares
-abbrev pub later : Service → Bool → Code → ℕ → ℕ → List ℕ → Answer
-later service shares code n at t =
+abbrev pub later_by : Service → Bool → Code → ℕ → ℕ → List ℕ → Answer
+later_by service shares code n at t =
     cond (zeros t)
     (tested ((nat_le n 46, Padding at) ∷ []) (Ok None))
     (tested ((shares, NotShared at) ∷ []) (here service code at t))
 
-abbrev pub of_rest : Service → Bool → Code → ℕ → ℕ → List ℕ → Answer
-of_rest service shares code n at t =
-    cond (length t == 0) (Ok None) (cond (nat_lt 12 at) (later service shares code n at t) (here service code at t))
+abbrev pub of_rest_by : Service → Bool → Code → ℕ → ℕ → List ℕ → Answer
+of_rest_by service shares code n at t =
+    cond (length t == 0) (Ok None) (cond (nat_lt 12 at) (later_by service shares code n at t) (here service code at t))
 
 -- at an offset of a packet, by what its head says
-abbrev pub inside : Services → Head → List ℕ → ℕ → Answer
-inside services head s at =
-    tested ((nat_le 12 at && nat_le at (length s), PastEnd at) ∷ []) (of_rest (services head.code) head.shares head.code (length s) at (drop at s))
+abbrev pub inside_by : Service → Bool → Code → List ℕ → ℕ → Answer
+inside_by service shares code s at =
+    tested ((nat_le 12 at && nat_le at (length s), PastEnd at) ∷ []) (of_rest_by service shares code (length s) at (drop at s))
 
--- the head's tests, then the entry's
+-- the same of a packet whose head has passed: its code shares where the registry says so
+abbrev pub later : Service → Code → ℕ → ℕ → List ℕ → Answer
+later service code n at t = later_by service (shares_in service) code n at t
+
+abbrev pub of_rest : Service → Code → ℕ → ℕ → List ℕ → Answer
+of_rest service code n at t = of_rest_by service (shares_in service) code n at t
+
+abbrev pub inside : Service → Code → List ℕ → ℕ → Answer
+inside service code s at = inside_by service (shares_in service) code s at
+
 abbrev pub reading : Services → List ℕ → ℕ → Answer
-reading services s at = and_then (head_reading services None s) (λ head. inside services head s at)
+reading services s at =
+    tested (head_tests services None s) (inside (services (code_of s)) (code_of s) s at)

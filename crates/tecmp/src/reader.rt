@@ -1,7 +1,7 @@
 // Reading a packet, entry by entry.
 ghost use Rattle.std.specs.Prelude.{◌≡◌, ◌+◌, ◌^◌, ◌<◌, length, None};
-ghost use Rattle.tecmp.specs.Entries.{ByReading, counted, entries, entries_from};
-ghost use Rattle.tecmp.specs.Reading.{here, of_rest, inside, reading};
+ghost use Rattle.tecmp.specs.Entries.{ByReading, counted, entries, entries_by};
+ghost use Rattle.tecmp.specs.Reading.{here, of_rest_by, inside_by, reading};
 ghost use Rattle.tecmp.specs.Views.{answered};
 
 use crate::entry::{EntryRead, all_zero, entry_at, has_time};
@@ -54,7 +54,7 @@ fn read_rest<'p, R: Registry>(
     rest: &'p [u8],
 ) -> Result<Option<EntryRead<'p>>, Refusal>
     requires { offset + length rest.now < 2 ^ 64 }
-    ensures { answered result ≡ of_rest (R.Registry.services registry.now head.code) head.shares head.code size offset rest.now }
+    ensures { answered result ≡ of_rest_by (R.Registry.services registry.now head.code) head.shares head.code size offset rest.now }
 {
     if rest.is_empty() {
         return Ok(None);
@@ -82,7 +82,7 @@ pub fn read_inside<'p, R: Registry>(
     packet: &'p [u8],
     offset: usize,
 ) -> Result<Option<EntryRead<'p>>, Refusal>
-    ensures { answered result ≡ inside (R.Registry.services registry.now) head packet.now offset }
+    ensures { answered result ≡ inside_by (R.Registry.services registry.now head.code) head.shares head.code packet.now offset }
 {
     if offset < FIRST_ENTRY || offset > packet.len() {
         return Err(Refusal::PastEnd { offset });
@@ -106,7 +106,7 @@ pub fn read_entry<'p, R: Registry>(
 
 // Counts the entries of a packet from an offset on.
 fn count_inside<R: Registry>(registry: &R, head: Head, packet: &[u8]) -> Result<usize, Refusal>
-    ensures { result ≡ counted 0 (entries_from (R.Registry.services registry.now) head packet.now 12) }
+    ensures { result ≡ counted 0 (entries_by (R.Registry.services registry.now head.code) head.shares head.code packet.now 12) }
 {
     let mut next = FIRST_ENTRY;
     let mut count = 0;
@@ -119,7 +119,8 @@ fn count_inside<R: Registry>(registry: &R, head: Head, packet: &[u8]) -> Result<
 
 // Tests a whole packet, and counts its entries: those that reading gives, one after the other.
 pub fn count_entries<R: Registry>(registry: &R, packet: &[u8]) -> Result<usize, Refusal>
-    ensures { result ≡ counted 0 (entries (R.Registry.services registry.now) None packet.now) }
+    ensures count { result ≡ counted 0 (entries (R.Registry.services registry.now) None packet.now) }
+    ensures walk { ByReading }
 {
     match read_head(registry, None, packet) {
         Ok(head) => count_inside(registry, head, packet),
