@@ -7,7 +7,7 @@ mod report;
 use comparison::RefusedPacket;
 use comparison::packets::compare::compare_packets;
 use failure::Failure;
-use kinds::Standard;
+use kinds::STANDARD;
 use std::process::ExitCode;
 use std::{env, fs};
 
@@ -26,12 +26,12 @@ Status: 0 for the same load; 1 for another, a refused packet or a file error.";
 fn compare(rt: &HostRuntime, first: &str, second: &str) -> Result<(), Failure> {
     let first_packet = read_file(rt, first)?;
     let second_packet = read_file(rt, second)?;
-    match compare_packets(&Standard, &first_packet, &second_packet) {
+    match compare_packets(&STANDARD, &first_packet, &second_packet) {
         Err(RefusedPacket::First(refusal)) => report::print_refusal(rt, first, refusal),
         Err(RefusedPacket::Second(refusal)) => report::print_refusal(rt, second, refusal),
         Ok(comparison) => {
-            report::print_packet(rt, &Standard, first, &first_packet)?;
-            report::print_packet(rt, &Standard, second, &second_packet)?;
+            report::print_packet(rt, &STANDARD, first, &first_packet)?;
+            report::print_packet(rt, &STANDARD, second, &second_packet)?;
             report::print_verdict(rt, comparison)
         }
     }

@@ -1,5 +1,5 @@
 -- Numbers of up to eight bytes and the eight bytes of a word. Assumes nothing.
-use Rattle.std.proofs.Common.{◌≡◌, ℕ, zero, suc, ◌+◌, ◌-◌, ◌*◌, ◌/◌, ◌%◌, ◌^◌, ◌≤◌, List, [], ◌∷◌, ◌++◌, length, get_or, take, drop, replicate, sym, refl, ap, ◌∙◌, arith}
+use Rattle.std.proofs.Common.{◌≡◌, ℕ, zero, suc, ◌+◌, ◌-◌, ◌*◌, ◌/◌, ◌%◌, ◌^◌, ◌≤◌, List, [], ◌∷◌, ◌++◌, length, get_or, take, drop, replicate, sym, refl, ap, ◌∙◌, div-one, arith}
 use borrow.Rule.Slice.PartMut.{put_mid}
 use Rattle.records.specs.BigEndian.{big, big_on, low}
 
@@ -25,7 +25,7 @@ abbrev pub bytes8 : ℕ → List ℕ
 bytes8 n = (n / 72057594037927936 % 256) ∷ (n / 281474976710656 % 256) ∷ (n / 1099511627776 % 256) ∷ (n / 4294967296 % 256) ∷ (n / 16777216 % 256) ∷ (n / 65536 % 256) ∷ (n / 256 % 256) ∷ (n % 256) ∷ []
 
 pub whole_low : (n : ℕ) → bytes8 n ≡ low 8 n
-whole_low n = refl
+whole_low n = ap (λ x. (n / 72057594037927936 % 256) ∷ (n / 281474976710656 % 256) ∷ (n / 1099511627776 % 256) ∷ (n / 4294967296 % 256) ∷ (n / 16777216 % 256) ∷ (n / 65536 % 256) ∷ (n / 256 % 256) ∷ (x % 256) ∷ []) (sym (div-one n))
 
 last_low : (k n : ℕ) → k ≤ 8 → take (8 - (8 - k)) (drop (8 - k) (low 8 n)) ≡ low k n
 last_low zero n h = refl

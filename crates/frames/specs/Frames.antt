@@ -77,9 +77,9 @@ module _ (s : Shape) where
   framed_on g d = frame g (head_read g d) (payload d) (tail_read g d)
 
   abbrev pub framed : ℕ → List ℕ → Frame
-  framed f d = framed_on (flags_read f) d
+  framed f d = frame (flags_read f) (head_read (flags_read f) d) (payload d) (tail_read (flags_read f) d)
 
-  -- an entry that carries no frame has n = 0
+  -- g is the flags as read; an entry that carries no frame has n = 0
   abbrev pub size_tests : ℕ → List ℕ → List (Bool × RecordRefusal)
   size_tests g d =
       (nat_le (s.head_length + 1 + s.tail_length) (length d), Length)
@@ -104,7 +104,7 @@ module _ (s : Shape) where
   flags_of (frame g h p t) = g
 
   abbrev pub bytes_of : Frame → List ℕ
-  bytes_of (frame g h p t) = laid s.head_length h p s.tail_length t
+  bytes_of (frame g h p t) = low s.head_length h ++ (length p ∷ (p ++ low s.tail_length t))
 
   abbrev pub codec : Codec Frame
   codec = record { tests = tests; says = framed; sense = sense; flags = flags_of; bytes = bytes_of }

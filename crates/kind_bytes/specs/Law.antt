@@ -73,7 +73,7 @@ proper Ethernet = record { mask_fits = omega arith; some = omega arith; bounded 
 pub sound : (c : Content) → Sound (codec (layout_of c))
 sound c = layout_sound (layout_of c) (proper c)
 
-bytes_lawful : (c : Content) → Lawful (verdict_of (codec (layout_of c)))
+pub bytes_lawful : (c : Content) → Lawful (verdict_of (codec (layout_of c)))
 bytes_lawful c = lawful (codec (layout_of c)) (sound c)
 
 pub uart_lawful : Lawful (verdict_of (codec uart))

@@ -1,4 +1,2 @@
 pub mod Examples
-pub mod Standard
 pub mod Table
-pub mod Law

@@ -6,29 +6,25 @@ use Rattle.records.specs.BigEndian.{big, big_on, low}
 
 pub length-low : (k n : ℕ) → length (low k n) ≡ k
 length-low zero n = refl
-length-low (suc zero) n = refl
-length-low (suc (suc k)) n = ap suc (length-low (suc k) n)
+length-low (suc k) n = ap suc (length-low k n)
 
 pub bytes_low : (k n : ℕ) → Bytes (low k n)
 bytes_low zero n = tt
-bytes_low (suc zero) n = (omega arith, tt)
-bytes_low (suc (suc k)) n = (omega arith, bytes_low (suc k) n)
+bytes_low (suc k) n = (omega arith, bytes_low k n)
 
 pow_next : (k : ℕ) → 2 ^ (8 * suc k) ≡ 256 * 2 ^ (8 * k)
 pow_next k = let e : 8 * suc k ≡ 8 + 8 * k = omega arith in ap (λ x. 2 ^ x) e ∙ pow-add 2 8 (8 * k)
 
 on_low : (k a n : ℕ) → big_on a (low k n) ≡ a * 2 ^ (8 * k) + n % 2 ^ (8 * k)
 on_low zero a n = omega arith
-on_low (suc zero) a n = omega arith
-on_low (suc (suc j)) a n =
-    let k = suc j in
+on_low (suc k) a n =
     let q = n / 2 ^ (8 * k) % 256 in
     let e : 8 * suc k ≡ 8 + 8 * k = omega arith in
     let m : n % 2 ^ (8 * suc k) ≡ q * 2 ^ (8 * k) + n % 2 ^ (8 * k) = ap (λ x. n % 2 ^ x) e ∙ mod-pow-add n 8 (8 * k) in
     let d : (a * 256 + q) * 2 ^ (8 * k) ≡ a * 256 * 2 ^ (8 * k) + q * 2 ^ (8 * k) = add-mul (a * 256) q (2 ^ (8 * k)) in
     let s : a * 256 * 2 ^ (8 * k) ≡ a * (256 * 2 ^ (8 * k)) = mul_assoc a 256 (2 ^ (8 * k)) in
     let t : a * 2 ^ (8 * suc k) ≡ a * (256 * 2 ^ (8 * k)) = ap (λ x. a * x) (pow_next k) in
-    on_low (suc j) (a * 256 + q) n ∙ omega arith
+    on_low k (a * 256 + q) n ∙ omega arith
 
 pub big-low : (k n : ℕ) → n < 2 ^ (8 * k) → big (low k n) ≡ n
 big-low k n h = let m = mod-eq_of_lt h in on_low k 0 n ∙ omega arith

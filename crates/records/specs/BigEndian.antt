@@ -12,5 +12,4 @@ big bs = big_on 0 bs
 -- the lowest so many bytes of a number
 abbrev pub low : ℕ → ℕ → List ℕ
 low zero n = []
-low (suc zero) n = (n % 256) ∷ []
-low (suc (suc k)) n = (n / 2 ^ (8 * suc k) % 256) ∷ low (suc k) n
+low (suc k) n = (n / 2 ^ (8 * k) % 256) ∷ low k n

@@ -1,6 +1,5 @@
 // Fields inside a word of flags.
-ghost use Rattle.std.specs.Prelude.{◌≡◌, ◌/◌, ◌%◌, ◌^◌};
-ghost use Rattle.records.specs.Flags.{flag};
+ghost use Rattle.std.specs.Prelude.{◌≡◌, ◌/◌, ◌%◌, ◌^◌, ◌==◌};
 
 // The word without its lowest bits.
 fn shifted(word: u16, low: u32) -> u16
@@ -29,7 +28,7 @@ pub fn field(word: u16, low: u32, width: u32) -> u16
 
 // Whether a bit of a word is set; bits above the word are not.
 pub fn bit(word: u16, at: u32) -> bool
-    ensures { result ≡ flag word at }
+    ensures { result ≡ (word / 2 ^ at % 2 == 1) }
 {
     field(word, at, 1) == 1
 }

@@ -2,7 +2,7 @@ use crate::hex::{read_bytes, read_word};
 use anyhow::anyhow;
 use comparison::packets::compare::compare_packets;
 use comparison::{Comparison, RefusedPacket};
-use kinds::Standard;
+use kinds::STANDARD;
 use readable::EntryText;
 use records::{Code, MessageType, Registry};
 use tecmp::reader::read_entry;
@@ -23,10 +23,10 @@ pub fn answer(rt: &HostRuntime, line: &str) -> anyhow::Result<()> {
 
 fn read_case(rt: &HostRuntime, packet: &str, offset: usize) -> anyhow::Result<()> {
     let packet = read_bytes(rt.alloc(), packet)?;
-    match read_entry(&Standard, &packet, offset) {
+    match read_entry(&STANDARD, &packet, offset) {
         Ok(Some(read)) => {
             let entry = EntryText {
-                registry: &Standard,
+                registry: &STANDARD,
                 entry: read.entry,
             };
             let flags = read.entry.flags;
@@ -59,7 +59,7 @@ fn read_code(kind: &str) -> anyhow::Result<Code> {
 fn record_case(rt: &HostRuntime, kind: &str, flags: u16, data: &str) -> anyhow::Result<()> {
     let code = read_code(kind)?;
     let data = read_bytes(rt.alloc(), data)?;
-    match Standard.check(code, flags, &data) {
+    match STANDARD.check(code, flags, &data) {
         Ok(length) => write_case(rt, code, flags, &data, length),
         Err(refusal) => {
             let number = refusal.number();
@@ -89,7 +89,7 @@ fn write_case(
     length: usize,
 ) -> anyhow::Result<()> {
     let mut part = vec![in rt.alloc(); 0xee; length]?;
-    match Standard.write(code, flags, data, &mut part) {
+    match STANDARD.write(code, flags, data, &mut part) {
         Ok(canonical) => print!(rt; "  flags {canonical:04x} data")?,
         Err(refusal) => {
             let number = refusal.number();
@@ -106,7 +106,7 @@ fn write_case(
 fn compare_case(rt: &HostRuntime, first: &str, second: &str) -> anyhow::Result<()> {
     let first = read_bytes(rt.alloc(), first)?;
     let second = read_bytes(rt.alloc(), second)?;
-    match compare_packets(&Standard, &first, &second) {
+    match compare_packets(&STANDARD, &first, &second) {
         Err(RefusedPacket::First(refusal)) => println!(rt; "  first refused with {refusal}")?,
         Err(RefusedPacket::Second(refusal)) => println!(rt; "  second refused with {refusal}")?,
         Ok(Comparison::Same { entries }) => println!(rt; "  same load, entries: {entries}")?,
