@@ -1,5 +1,5 @@
 -- Comparing goes from entry to entry. Assumes nothing.
-use Rattle.std.proofs.Common.{◌≡◌, ℕ, zero, suc, ◌+◌, ◌-◌, ◌<◌, ◌≤◌, Bool, true, false, List, [], ◌∷◌, ◌++◌, map, length, take, drop, is_ok, Some, None, Ok, Err, sym, refl, ap, ◌∙◌, subst, add-one, arith, take_all}
+use Rattle.std.proofs.Common.{◌≡◌, ℕ, zero, suc, ◌+◌, ◌≤◌, Bool, true, false, List, [], ◌∷◌, ◌++◌, length, take, drop, is_ok, Some, None, Ok, Err, sym, refl, ap, ◌∙◌, subst, add-one, arith, take_all}
 use Rattle.tecmp.specs.Entries.{Entries, before, onward, entries, entries_at}
 use Rattle.tecmp.specs.Reading.{Entry, Found, reading}
 use Rattle.records.specs.Services.{Services}

@@ -1,7 +1,6 @@
 -- Whether two packets hold the same load, and where they first part.
-use Rattle.std.specs.Prelude.{◌≡◌, ℕ, Bool, true, false, List, [], ◌∷◌, map, length, take, drop, is_ok, Some, None, Ok, Err, Option, Result, ◌≢◌}
+use Rattle.std.specs.Prelude.{◌≡◌, ℕ, true, List, [], ◌∷◌, map, length, take, drop, is_ok, Some, None, Ok, Err, Option, Result, ◌≢◌}
 use Rattle.tecmp.specs.Entries.{Entries, entries}
-use Rattle.tecmp.specs.Reading.{Entry}
 use Rattle.records.specs.Services.{Services}
 use Rattle.records.specs.declared.refusal.Refusal.{Refusal}
 use Rattle.comparison.specs.Statements.{Statement, stated}

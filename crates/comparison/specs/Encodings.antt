@@ -1,5 +1,5 @@
 -- What it is to encode a record into the front of a buffer.
-use Rattle.std.specs.Prelude.{◌≡◌, ℕ, ◌≤◌, true, false, ◌&&◌, List, length, take, is_ok, Some, None, Option, nat_le}
+use Rattle.std.specs.Prelude.{◌≡◌, ℕ, ◌≤◌, false, ◌&&◌, List, length, take, is_ok, Some, None, Option, nat_le}
 use Rattle.records.specs.Services.{Service, checked_by, canonical_flags_by, canonical_by}
 use Rattle.comparison.specs.declared.content.Encoding.{Encoding}
 

@@ -1,8 +1,8 @@
 -- What an entry says, however it is encoded.
-use Rattle.std.specs.Prelude.{◌≡◌, ℕ, ◌<◌, List, [], ◌∷◌, length, take, ℤ, is_ok}
+use Rattle.std.specs.Prelude.{ℕ, List, ℤ}
 use Rattle.records.specs.declared.code.Code.{Code}
 use Rattle.tecmp.specs.Reading.{Entry}
-use Rattle.records.specs.Services.{Services, Service, unserved, served, sense_by}
+use Rattle.records.specs.Services.{Services, sense_by}
 
 -- code, interface, time and sense
 pub record Statement : Type 0 where

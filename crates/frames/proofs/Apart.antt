@@ -1,5 +1,5 @@
 -- The sense of a frame tells it. Assumes nothing.
-use Rattle.std.proofs.Common.{◌≡◌, ℕ, suc, List, [], ◌∷◌, ◌++◌, map, length, sym, refl, ap, ◌∙◌, arith}
+use Rattle.std.proofs.Common.{◌≡◌, List, [], ◌∷◌, ◌++◌, length, refl, ap, ◌∙◌, arith}
 use Rattle.records.proofs.Whole.{map-pos}
 use Rattle.frames.specs.Frames.{Shape, Shapely, Frame, frame, sense}
 

@@ -1,17 +1,17 @@
 -- A shapely kind of frames is sound: what it writes reads back. Assumes nothing.
-use Rattle.std.proofs.Common.{◌≡◌, ℕ, ◌+◌, ◌-◌, ◌*◌, ◌^◌, ◌<◌, ◌≤◌, Bool, true, false, cond, eqb, List, [], ◌∷◌, ◌++◌, length, get_or, take, drop, sym, refl, ap, ◌∙◌, subst, arith}
+use Rattle.std.proofs.Common.{◌≡◌, ℕ, ◌+◌, ◌*◌, ◌^◌, ◌<◌, ◌≤◌, Bool, true, false, cond, eqb, List, ◌∷◌, ◌++◌, length, take, drop, sym, refl, ap, ◌∙◌, subst, arith}
 use lib.Bits.{bit_and}
 use Rattle.std.proofs.lemmas.Nat.{and_le_r}
 use Rattle.std.proofs.ByRecursion.{All-append, All-take, All-drop}
 use Rattle.std.proofs.lemmas.List.{length-append, length-take-le, length-drop, take_at, drop_at, get_or_at, drop-drop}
-use Rattle.std.proofs.lemmas.Bool.{eqb-true, leb-true}
+use Rattle.std.proofs.lemmas.Bool.{eqb-true}
 use Rattle.records.specs.Codecs.{Sound, verdict_of}
 use Rattle.records.specs.Tests.{Passed}
 use Rattle.records.specs.Verdicts.{Bytes, Lawful}
 use Rattle.records.proofs.Codecs.{lawful}
 use Rattle.records.proofs.Masks.{kept_again}
 use Rattle.records.specs.BigEndian.{big, low}
-use Rattle.frames.specs.Frames.{Shape, Shapely, flags_read, count, Sized, payload, head_read, tail_read, framed_on, framed, tests_on, tests, flags_of, bytes_of, codec}
+use Rattle.frames.specs.Frames.{Shape, Shapely, flags_read, count, Sized, payload, head_read, tail_read, framed_on, framed, tests_on, tests, bytes_of, codec}
 use Rattle.frames.proofs.Apart.{apart}
 use Rattle.records.proofs.Widths.{length-low, bytes_low, big-low, big_below}
 

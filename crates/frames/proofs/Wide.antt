@@ -1,7 +1,7 @@
 -- Numbers of up to eight bytes and the eight bytes of a word. Assumes nothing.
-use Rattle.std.proofs.Common.{◌≡◌, ℕ, zero, suc, ◌+◌, ◌-◌, ◌*◌, ◌/◌, ◌%◌, ◌^◌, ◌≤◌, List, [], ◌∷◌, ◌++◌, length, get_or, take, drop, replicate, sym, refl, ap, ◌∙◌, div-one, arith}
+use Rattle.std.proofs.Common.{◌≡◌, ℕ, zero, suc, ◌+◌, ◌-◌, ◌*◌, ◌/◌, ◌%◌, ◌≤◌, List, [], ◌∷◌, length, get_or, take, drop, replicate, sym, refl, ap, ◌∙◌, div-one, arith}
 use borrow.Rule.Slice.PartMut.{put_mid}
-use Rattle.records.specs.BigEndian.{big, big_on, low}
+use Rattle.records.specs.BigEndian.{big, low}
 
 -- what `u64::from_be_bytes` answers
 abbrev pub sum8 : List ℕ → ℕ

@@ -1,5 +1,5 @@
 -- Records that are a frame: a header, the payload length n in one byte, the payload, a trailer.
-use Rattle.std.specs.Prelude.{◌≡◌, ℕ, ◌+◌, ◌*◌, ◌^◌, ◌<◌, ◌≤◌, Bool, true, false, cond, List, [], ◌∷◌, ◌++◌, map, length, take, drop, ℤ, pos, Ok, ◌==◌, bit_and, nat_le, slice_index}
+use Rattle.std.specs.Prelude.{◌≡◌, ℕ, ◌+◌, ◌*◌, ◌^◌, ◌<◌, ◌≤◌, Bool, true, cond, List, [], ◌∷◌, ◌++◌, map, length, take, drop, ℤ, pos, Ok, ◌==◌, bit_and, nat_le, slice_index}
 use Rattle.records.specs.Codecs.{Codec, encoded}
 use Rattle.records.specs.Tests.{tested}
 use Rattle.records.specs.Verdicts.{Verdict}

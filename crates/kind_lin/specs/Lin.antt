@@ -1,5 +1,5 @@
 -- LIN records, logged and replay: ID in one byte, n, payload, checksum in one byte.
-use Rattle.std.specs.Prelude.{ℕ, ◌%◌, Bool, true, false, cond, not, ◌||◌, List, [], ◌∷◌, ◌==◌}
+use Rattle.std.specs.Prelude.{ℕ, ◌%◌, Bool, false, cond, not, ◌||◌, List, [], ◌∷◌, ◌==◌}
 use Rattle.records.specs.Codecs.{verdict_of}
 use Rattle.records.specs.Flags.{flag}
 use Rattle.records.specs.Verdicts.{Verdict}

@@ -1,11 +1,10 @@
 -- What is read of a LIN frame is read again as itself. Assumes nothing.
-use Rattle.std.specs.Prelude.{◌≡◌, ℕ, ◌*◌, ◌%◌, ◌^◌, ◌<◌, ◌≤◌, Bool, true, false, cond, [], ◌∷◌, refl}
+use Rattle.std.specs.Prelude.{◌≡◌, ℕ, ◌^◌, ◌<◌, ◌≤◌, Bool, true, false, cond, refl}
 use Rattle.std.proofs.Common.{arith}
 use Rattle.std.proofs.lemmas.Bool.Decides.{nat_tests}
 use Rattle.records.specs.declared.code.MessageType.{MessageType}
 use Rattle.records.specs.declared.code.MessageType.TheVariants.{LoggingStream, ReplayData}
 use Rattle.frames.specs.Frames.{Shapely}
-use Rattle.records.specs.Flags.{flag}
 use Rattle.kind_lin.specs.Lin.{lin_shape, kept_flags, allows, id_as, checksum_read}
 
 few : (d : MessageType) (g n : ℕ) → allows d g n ≡ true → n ≤ 254

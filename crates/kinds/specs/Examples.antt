@@ -1,5 +1,5 @@
 -- Worked examples: each is computed by the definitions that the contracts cite.
-use Rattle.std.specs.Prelude.{◌≡◌, ℕ, true, List, [], ◌∷◌, ◌++◌, replicate, ℤ, pos, negsuc, None, Ok, Err}
+use Rattle.std.specs.Prelude.{◌≡◌, ℕ, true, List, [], ◌∷◌, ◌++◌, replicate, pos, negsuc, None, Ok, Err}
 use Rattle.records.specs.Codecs.{verdict_of}
 use Rattle.tecmp.specs.Entries.{entries, counted}
 use Rattle.records.specs.Services.{Services, single}

@@ -1,5 +1,5 @@
 -- What the standard registry serves: seven logged kinds and four replay kinds.
-use Rattle.std.specs.Prelude.{ℕ, Bool, true, false, cond, ◌||◌, Some, None, Option, ◌==◌}
+use Rattle.std.specs.Prelude.{ℕ, Bool, true, false, cond, Some, None, Option, ◌==◌}
 use Rattle.records.specs.declared.code.Code.{Code}
 use Rattle.records.specs.declared.code.MessageType.{MessageType}
 use Rattle.records.specs.declared.code.MessageType.TheVariants.{LoggingStream, ReplayData}

@@ -1,9 +1,9 @@
 -- A sound codec keeps the law of a kind. Assumes nothing.
-use Rattle.std.proofs.Common.{◌≡◌, ℕ, ◌^◌, ◌<◌, ◌≤◌, Bool, true, false, cond, List, [], ◌∷◌, length, ℤ, Ok, Err, Result, sym, refl, ap, ◌∙◌, subst, arith}
+use Rattle.std.proofs.Common.{◌≡◌, ℕ, ◌^◌, ◌<◌, List, length, ℤ, Ok, Err, Result, sym, refl, ap, ◌∙◌, subst, arith}
 use Rattle.records.specs.declared.refusal.RecordRefusal.{RecordRefusal}
 use Rattle.records.specs.Codecs.{Codec, Sound, encoded, verdict_of}
 use Rattle.records.specs.Tests.{tested, Passed}
-use Rattle.records.specs.Verdicts.{Verdict, refuses, accepts, Bytes, Canonical, Lawful, checked, canonical_data, canonical_flags}
+use Rattle.records.specs.Verdicts.{accepts, Bytes, Canonical, Lawful, checked, canonical_data, canonical_flags}
 use Rattle.records.proofs.Tested.{passed, tested_passed}
 
 module _ {S : Type 0} (k : Codec S) (sound : Sound k) where

@@ -1,6 +1,5 @@
 -- What is known of a record that a registry has checked, and its law over the encodings. Assumes nothing.
-use Rattle.std.proofs.Common.{◌≡◌, ℕ, ◌^◌, ◌<◌, ◌≤◌, Bool, true, false, cond, eqb, List, length, is_ok, Ok, Err, Result, sym, refl, ap, ◌∙◌, arith}
-use Rattle.std.proofs.lemmas.Bool.{eqb-true}
+use Rattle.std.proofs.Common.{◌≡◌, ℕ, ◌^◌, ◌<◌, ◌≤◌, Bool, true, false, cond, eqb, List, length, is_ok, Ok, Err, sym, refl, ap, ◌∙◌, arith}
 use Rattle.records.specs.declared.refusal.WriteRefusal.{WriteRefusal}
 use Rattle.records.specs.declared.refusal.WriteRefusal.TheVariants.{PartLength}
 use Rattle.records.specs.Services.{Service, unserved, served, LawfulService, in_kind, checked_by, written_by, sense_by, canonical_flags_by, canonical_by}

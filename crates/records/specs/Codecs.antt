@@ -1,5 +1,5 @@
 -- The shape of a kind's verdict: tests in order, then what the record says, and its canonical encoding as a function of that alone.
-use Rattle.std.specs.Prelude.{◌≡◌, ℕ, ◌^◌, ◌<◌, ◌≤◌, Bool, List, [], ◌∷◌, length, ℤ, Ok, Err, Result}
+use Rattle.std.specs.Prelude.{◌≡◌, ℕ, ◌^◌, ◌<◌, ◌≤◌, Bool, List, length, ℤ, Ok, Err, Result}
 use Rattle.records.specs.declared.refusal.RecordRefusal.{RecordRefusal}
 use Rattle.records.specs.Tests.{tested, Passed}
 use Rattle.records.specs.Verdicts.{Verdict, refuses, accepts, Bytes}

@@ -1,5 +1,5 @@
 -- What a registry of record kinds means.
-use Rattle.std.specs.Prelude.{◌≡◌, ℕ, Bool, true, false, cond, List, [], ℤ, Some, None, Ok, Err, Option, Result}
+use Rattle.std.specs.Prelude.{ℕ, Bool, true, false, cond, List, [], ℤ, Some, None, Ok, Err, Option, Result}
 use Rattle.records.specs.declared.code.Code.{Code}
 use Rattle.records.specs.declared.refusal.RecordRefusal.{RecordRefusal}
 use Rattle.records.specs.declared.refusal.WriteRefusal.{WriteRefusal}

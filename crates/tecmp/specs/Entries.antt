@@ -4,7 +4,7 @@ use Rattle.records.specs.declared.code.Code.{Code}
 use Rattle.tecmp.specs.declared.head.Stream.{Stream}
 use Rattle.records.specs.declared.refusal.Refusal.{Refusal}
 use Rattle.tecmp.specs.Layout.{code_of}
-use Rattle.tecmp.specs.Reading.{Entry, Found, Answer, head_tests, inside_by, reading}
+use Rattle.tecmp.specs.Reading.{Entry, Answer, head_tests, inside_by, reading}
 use Rattle.records.specs.Services.{Services, Service, shares_in}
 use Rattle.records.specs.Tests.{tested}
 

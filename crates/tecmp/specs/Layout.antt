@@ -1,5 +1,5 @@
 -- Big-endian numbers, and the fields of a packet's and an entry's head.
-use Rattle.std.specs.Prelude.{ℕ, ◌+◌, ◌*◌, Bool, true, false, cond, ◌&&◌, List, [], ◌∷◌, take, drop, ◌==◌, bit_and, nat_lt, slice_index}
+use Rattle.std.specs.Prelude.{ℕ, ◌+◌, ◌*◌, Bool, true, cond, ◌&&◌, List, [], ◌∷◌, take, drop, ◌==◌, bit_and, nat_lt, slice_index}
 use Rattle.records.specs.declared.code.MessageType.{MessageType}
 use Rattle.records.specs.declared.code.MessageType.TheVariants.{LoggingStream, ReplayData}
 use Rattle.records.specs.declared.code.Code.{Code}

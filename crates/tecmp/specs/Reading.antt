@@ -1,7 +1,5 @@
 -- The rule of reading a packet: the tests in their order, and what they let pass.
-use Rattle.std.specs.Prelude.{◌≡◌, ℕ, ◌+◌, Bool, true, false, cond, not, ◌&&◌, ◌||◌, List, [], ◌∷◌, length, drop, is_ok, Some, None, Ok, Err, Option, Result, ◌==◌, bit_and, nat_le, nat_lt}
-use Rattle.records.specs.declared.code.MessageType.{MessageType}
-use Rattle.records.specs.declared.code.MessageType.TheVariants.{LoggingStream, ReplayData}
+use Rattle.std.specs.Prelude.{ℕ, ◌+◌, Bool, cond, not, ◌&&◌, ◌||◌, List, [], ◌∷◌, length, drop, is_ok, Some, None, Ok, Option, Result, ◌==◌, bit_and, nat_le, nat_lt}
 use Rattle.records.specs.declared.code.Code.{Code}
 use Rattle.tecmp.specs.declared.head.Head.{Head}
 use Rattle.tecmp.specs.declared.head.Stream.{Stream}

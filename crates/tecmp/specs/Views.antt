@@ -1,5 +1,5 @@
 -- What the code's views say.
-use Rattle.std.specs.Prelude.{ℕ, Some, None, Ok, Err, Option, Result}
+use Rattle.std.specs.Prelude.{Some, None, Ok, Err, Option, Result}
 use Rattle.tecmp.specs.declared.entry.EntryView.{EntryView}
 use Rattle.tecmp.specs.declared.entry.EntryRead.{EntryRead}
 use Rattle.records.specs.declared.refusal.Refusal.{Refusal}

@@ -1,7 +1,6 @@
-use Rattle.std.proofs.Common.{◌≡◌, ℕ, ◌<◌, List, arith}
+use Rattle.std.proofs.Common.{◌<◌}
 use Rattle.std.proofs.ByRecursion.{All-from_get_or}
 use Rattle.std.proofs.lemmas.Slice.Eq.{slice_eq-Decides}
-use Rattle.records.specs.Verdicts.{Bytes}
 use Rattle.comparison.proofs.Decided.{has_room, by_data, by_flags}
 use Rattle.comparison.proofs.content.same_sense.Goals as goal
 use Rattle.std.proofs.lemmas.Bool.Decides.{Decides-eqb}

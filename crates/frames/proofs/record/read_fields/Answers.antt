@@ -1,4 +1,4 @@
-use Rattle.std.proofs.Common.{◌≡◌, refl}
+use Rattle.std.proofs.Common.{refl}
 use Rattle.frames.proofs.Checked.{head_is, tail_is}
 use Rattle.frames.proofs.record.read_fields.Goals as goal
 

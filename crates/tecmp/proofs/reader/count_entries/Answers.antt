@@ -1,6 +1,6 @@
 use Rattle.std.proofs.Common.{ap, ◌∙◌}
 use Rattle.tecmp.specs.declared.head.Head.{Head}
-use Rattle.tecmp.specs.Entries.{entries_by, entries, counted}
+use Rattle.tecmp.specs.Entries.{entries_by, counted}
 use Rattle.tecmp.proofs.Walks.{by_head, no_head, by_reading}
 use Rattle.tecmp.proofs.reader.count_entries.Goals as goal
 

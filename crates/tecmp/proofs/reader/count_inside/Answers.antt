@@ -1,4 +1,4 @@
-use Rattle.std.proofs.Common.{◌≡◌, ◌+◌, Some, Ok, sym, ap, ◌∙◌, arith}
+use Rattle.std.proofs.Common.{◌≡◌, Some, Ok, sym, ap, ◌∙◌, arith}
 use Rattle.tecmp.specs.Entries.{entries_by, counted}
 use Rattle.tecmp.specs.Reading.{inside_by}
 use Rattle.tecmp.specs.Views.{found, read_as}

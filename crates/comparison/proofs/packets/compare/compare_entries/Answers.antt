@@ -1,4 +1,4 @@
-use Rattle.std.proofs.Common.{◌≡◌, ℕ, List, Some, None, Ok, Err, Option, sym, ap, ◌∙◌, arith}
+use Rattle.std.proofs.Common.{◌≡◌, ℕ, List, Some, None, Ok, Option, sym, ap, ◌∙◌, arith}
 use Rattle.tecmp.specs.Reading.{Answer, reading}
 use Rattle.records.specs.Services.{Services}
 use Rattle.tecmp.specs.Views.{found, read_as}
