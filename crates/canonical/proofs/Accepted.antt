@@ -1,6 +1,6 @@
 -- What is known of an entry that a copy accepts, and what the kinds' law then says of the packets. Assumes nothing.
 use Rattle.std.proofs.Common.{◌≡◌, ◌+◌, ◌^◌, ◌<◌, ◌≤◌, Bool, true, List, [], ◌∷◌, ◌++◌, map, is_ok, sym, ap, arith}
-use Rattle.std.specs.List.{AllByRecursion as All}
+use Rattle.std.specs.List.{AllByRecursion}
 use Rattle.std.proofs.ByRecursion.{All-map, All-weaker}
 use Rattle.std.proofs.lemmas.List.{map_push}
 use Rattle.records.specs.Services.{Services, LawfulService, checked_by, shares_in}
@@ -45,7 +45,7 @@ module _ (services : Services) (stream : Stream) where
         omega (arith, c.0, c.1)
 
     -- every packet passes
-    pub packets_pass : (es : List Entry) → All (Accepted services stream) es → All (Passes may_stand) (packets_of services stream es)
+    pub packets_pass : (es : List Entry) → AllByRecursion (Accepted services stream) es → AllByRecursion (Passes may_stand) (packets_of services stream es)
     packets_pass es h =
         passes_cut may_stand (map (item_of services) es)
         (All-map (λ i. may_stand (i ∷ []) ≡ true) (item_of services) es

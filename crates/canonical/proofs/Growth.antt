@@ -1,6 +1,6 @@
 -- Several entries: a copy only grows, and stands for all of them. Assumes nothing.
 use Rattle.std.proofs.Common.{◌≡◌, ℕ, ◌+◌, ◌≤◌, Bool, ◌&&◌, eqb, leb, List, [], ◌∷◌, ◌++◌, length, Some, None, Option, sym, refl, ◌∙◌, subst, arith}
-use Rattle.std.specs.List.{AllByRecursion as All}
+use Rattle.std.specs.List.{AllByRecursion}
 use Rattle.std.proofs.lemmas.List.{append_assoc, append-nil}
 use Rattle.std.proofs.lemmas.Bool.{cond_both}
 use Rattle.records.specs.Services.{Services, LawfulService, shares_in}
@@ -48,7 +48,7 @@ module _ (services : Services) where
       go (Some p) t = h.reaches ∙ room_tail (packets_of services stream es) p t
 
   module _ (law : (code : Code) → LawfulService (services code)) (stream : Stream) where
-    pub length-put_all : (x : Extent) (out : List ℕ) (es new : List Entry) → Holds services stream x out es → All (Accepted services stream) new
+    pub length-put_all : (x : Extent) (out : List ℕ) (es new : List Entry) → Holds services stream x out es → AllByRecursion (Accepted services stream) new
         → (after_all services x new).length + 4 ≤ length out → length (put_all services stream x new out) ≡ length out
     length-put_all x out es [] h a f = refl
     length-put_all x out es (e ∷ new) h a f =
@@ -57,7 +57,7 @@ module _ (services : Services) where
         let l : length (put services stream x e out) ≡ length out = length-put services law stream x out es h e a.0 fit in
         length-put_all (after services x e) (put services stream x e out) (es ++ e ∷ []) new (holds_more services law stream x out es h e a.0 fit) a.1 (omega arith) ∙ l
 
-    pub holds_all : (x : Extent) (out : List ℕ) (es new : List Entry) → Holds services stream x out es → All (Accepted services stream) new
+    pub holds_all : (x : Extent) (out : List ℕ) (es new : List Entry) → Holds services stream x out es → AllByRecursion (Accepted services stream) new
         → (after_all services x new).length + 4 ≤ length out → Holds services stream (after_all services x new) (put_all services stream x new out) (es ++ new)
     holds_all x out es [] h a f = subst (Holds services stream x out) (sym (append-nil es)) h
     holds_all x out es (e ∷ new) h a f =

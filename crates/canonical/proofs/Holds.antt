@@ -1,6 +1,6 @@
 -- An output holds the packets of a list of entries, and a copy's numbers tell of them; also after one entry more. Assumes nothing.
 use Rattle.std.proofs.Common.{◌≡◌, ℕ, ◌+◌, ◌≤◌, true, false, ◌&&◌, eqb, leb, List, [], ◌∷◌, ◌++◌, map, length, take, Some, None, Option, sym, refl, ap, ◌∙◌, subst, ap₂, arith}
-use Rattle.std.specs.List.{AllByRecursion as All}
+use Rattle.std.specs.List.{AllByRecursion}
 use Rattle.std.proofs.ByRecursion.{All-push}
 use Rattle.std.proofs.lemmas.List.{append_assoc, length_push}
 use Rattle.std.proofs.lemmas.Bool.{cond_both}
@@ -31,9 +31,9 @@ pub record Holds (services : Services) (stream : Stream) (x : Extent) (out : Lis
   pub entries_are : x.entries ≡ length es
   pub packets_are : x.packets ≡ length (packets_of services stream es)
   pub last_is : LastIs (packets_of services stream es) x.last
-  pub accepted : All (Accepted services stream) es
+  pub accepted : AllByRecursion (Accepted services stream) es
 
-all_last : {A : Type 0} (P : A → Type 0) (xs : List A) (y : A) → All P (xs ++ y ∷ []) → P y
+all_last : {A : Type 0} (P : A → Type 0) (xs : List A) (y : A) → AllByRecursion P (xs ++ y ∷ []) → P y
 all_last P [] y h = h.0
 all_last P (x ∷ xs) y h = all_last P xs y h.1
 
@@ -78,7 +78,7 @@ module _ (services : Services) (law : (code : Code) → LawfulService (services 
 
   module _ (p : OpenPacket) (t : Tail ps p) where
     passes : Passes (may_stand services stream) t.last
-    passes = all_last (Passes (may_stand services stream)) t.front t.last (subst (All (Passes (may_stand services stream))) t.split (packets_pass services stream law es h.accepted))
+    passes = all_last (Passes (may_stand services stream)) t.front t.last (subst (AllByRecursion (Passes (may_stand services stream))) t.split (packets_pass services stream law es h.accepted))
 
     -- the test on the numbers is the test on the packet
     test_is : may_stand services stream (t.last ++ item ∷ []) ≡ (leb (p.size + size item) packet_limit && (eqb p.data_type type && shares_in (services e.code)))

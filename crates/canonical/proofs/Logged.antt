@@ -1,6 +1,6 @@
 -- Whatever the calls were, a copy stands for the entries that it has accepted, and closing it writes their image. Assumes nothing.
 use Rattle.std.proofs.Common.{◌≡◌, ℕ, ◌+◌, ◌≤◌, eqb, ltb, leb, List, [], ◌∷◌, ◌++◌, map, length, take, Some, Ok, Err, Result, sym, refl, ap, ◌∙◌, subst, arith}
-use Rattle.std.specs.List.{AllByRecursion as All}
+use Rattle.std.specs.List.{AllByRecursion}
 use Rattle.std.proofs.lemmas.List.{append-nil, length-map}
 use Rattle.std.proofs.lemmas.Bool.{leb-true}
 use Rattle.records.specs.Codes.{type_of}
@@ -33,7 +33,7 @@ use Rattle.canonical.proofs.Taken.{then_ok, taken_accepted}
 
 module _ (services : Services) (law : (code : Code) → LawfulService (services code)) where
   -- entries that are accepted and fit
-  stands_all : (s : State) (out : List ℕ) (es new : List Entry) → Stands services s out es → All (Accepted services s.stream) new
+  stands_all : (s : State) (out : List ℕ) (es new : List Entry) → Stands services s out es → AllByRecursion (Accepted services s.stream) new
       → (after_all services s.extent new).length + 4 ≤ s.capacity
       → Stands services (reaching s (after_all services s.extent new)) (put_all services s.stream s.extent new out) (es ++ new)
   stands_all s out es new st a f =
@@ -66,7 +66,7 @@ module _ (services : Services) (law : (code : Code) → LawfulService (services 
       )
 
   stands_left : (s s' : State) (out out' : List ℕ) (es es' new : List Entry) (r : Result (Unit {0}) Refusal) → Stands services s out es
-      → (r ≡ Ok tt → All (Accepted services s.stream) new × ((after_all services s.extent new).length + 4 ≤ s.capacity))
+      → (r ≡ Ok tt → AllByRecursion (Accepted services s.stream) new × ((after_all services s.extent new).length + 4 ≤ s.capacity))
       → Leaves services s new out r s' out' → es' ≡ es ++ accepted_if r new → Stands services s' out' es'
   stands_left s s' out out' es es' new (Ok tt) st h l q =
       let a = h refl in
@@ -74,13 +74,13 @@ module _ (services : Services) (law : (code : Code) → LawfulService (services 
   stands_left s s' out out' es es' new (Err w) st h l q = moved services s s' out out' es es' l.0 l.1 (q ∙ append-nil es) st
 
   taken_fits : (s : State) (packet : List ℕ) (lent : ℕ) → Bytes packet → taken services s packet lent ≡ Ok tt
-      → All (Accepted services s.stream) (entries_in services s packet) × ((after_all services s.extent (entries_in services s packet)).length + 4 ≤ s.capacity)
+      → AllByRecursion (Accepted services s.stream) (entries_in services s packet) × ((after_all services s.extent (entries_in services s packet)).length + 4 ≤ s.capacity)
   taken_fits s packet lent b e =
       let p = (passed ((eqb lent s.capacity, OutputLength) ∷ []) _ tt e).1 in
       let t = then_ok (entries services (Some s.stream) packet) (room services s) tt p in
       let es : List Entry = t.0 in
       let q = (passed ((leb ((after_all services s.extent es).length + 4) s.capacity, OutputFull) ∷ []) (Ok tt) tt t.2).0.0 in
-      subst (λ fs. All (Accepted services s.stream) fs × ((after_all services s.extent fs).length + 4 ≤ s.capacity)) (ap listed (sym t.1))
+      subst (λ fs. AllByRecursion (Accepted services s.stream) fs × ((after_all services s.extent fs).length + 4 ≤ s.capacity)) (ap listed (sym t.1))
       (taken_accepted services s.stream packet b es t.1, leb-true _ _ q)
 
   pub logged : {s : State} {out : List ℕ} {es : List Entry} → Log services s out es → Stands services s out es

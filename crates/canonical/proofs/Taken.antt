@@ -1,6 +1,6 @@
 -- The entries of a packet of the copy's stream are ones that the copy accepts. Assumes nothing.
 use Rattle.std.proofs.Common.{◌≡◌, ℕ, zero, suc, ◌-◌, ◌^◌, ◌<◌, true, List, [], ◌∷◌, length, drop, Some, None, Ok, Err, Result, sym, refl, subst, arith}
-use Rattle.std.specs.List.{AllByRecursion as All}
+use Rattle.std.specs.List.{AllByRecursion}
 use Rattle.std.proofs.ByRecursion.{All-take, All-drop}
 use Rattle.records.specs.Codes.{same_type}
 use Rattle.records.specs.Services.{Services}
@@ -30,29 +30,29 @@ then_ok (Err w) next y e = let z : ◌≡◌ {A = ℕ} 0 1 = cc in absurd (omega
 
 -- what holds of every entry that stands somewhere holds of all that are read
 module _ (P : Entry → Type 0) where
-  none_read : (es : List Entry) → ◌≡◌ {A = Entries} (Ok []) (Ok es) → All P es
+  none_read : (es : List Entry) → ◌≡◌ {A = Entries} (Ok []) (Ok es) → AllByRecursion P es
   none_read [] e = tt
   none_read (x ∷ es) e = let z : ◌≡◌ {A = ℕ} 0 1 = cc in absurd (omega arith)
 
-  all_before : (e : Entry) (r : Entries) (es : List Entry) → before e r ≡ Ok es → P e → ((fs : List Entry) → r ≡ Ok fs → All P fs) → All P es
-  all_before e (Ok fs) es q p rest = let z : e ∷ fs ≡ es = cc in subst (All P) z (p, rest fs refl)
+  all_before : (e : Entry) (r : Entries) (es : List Entry) → before e r ≡ Ok es → P e → ((fs : List Entry) → r ≡ Ok fs → AllByRecursion P fs) → AllByRecursion P es
+  all_before e (Ok fs) es q p rest = let z : e ∷ fs ≡ es = cc in subst (AllByRecursion P) z (p, rest fs refl)
   all_before e (Err w) es q p rest = let z : ◌≡◌ {A = ℕ} 0 1 = cc in absurd (omega arith)
 
   all_onward : (a : Answer) (rest : ℕ → Entries) (es : List Entry) → onward a rest ≡ Ok es
-      → ((f : Found) → a ≡ Ok (Some f) → P f.entry) → ((next : ℕ) (fs : List Entry) → rest next ≡ Ok fs → All P fs) → All P es
+      → ((f : Found) → a ≡ Ok (Some f) → P f.entry) → ((next : ℕ) (fs : List Entry) → rest next ≡ Ok fs → AllByRecursion P fs) → AllByRecursion P es
   all_onward (Err w) rest es q here there = let z : ◌≡◌ {A = ℕ} 0 1 = cc in absurd (omega arith)
   all_onward (Ok None) rest es q here there = none_read es q
   all_onward (Ok (Some f)) rest es q here there = all_before f.entry (rest f.next) es q (here f refl) (there f.next)
 
   module _ (services : Services) (head : Head) (s : List ℕ) (each : (at : ℕ) (f : Found) → inside services head s at ≡ Ok (Some f) → P f.entry) where
-    all_walked : (k n : ℕ) (es : List Entry) → walked services head s k n ≡ Ok es → All P es
+    all_walked : (k n : ℕ) (es : List Entry) → walked services head s k n ≡ Ok es → AllByRecursion P es
     all_walked k zero es q = none_read es q
     all_walked (suc k) (suc n) es q = all_walked k n es q
     all_walked zero (suc n) es q =
         all_onward (inside services head s (length s - suc n)) (λ next. walked services head s (next - (length s - n)) n) es q
         (each (length s - suc n)) (λ next fs. all_walked (next - (length s - n)) n fs)
 
-    pub all_read : (at : ℕ) (es : List Entry) → entries_from services head s at ≡ Ok es → All P es
+    pub all_read : (at : ℕ) (es : List Entry) → entries_from services head s at ≡ Ok es → AllByRecursion P es
     all_read at es q = all_onward (inside services head s at) (λ next. walked services head s 0 (length s - next)) es q (each at) (λ next fs. all_walked 0 (length s - next) fs)
 
 module _ (services : Services) (stream : Stream) (s : List ℕ) (b : Bytes s) where
@@ -74,7 +74,7 @@ module _ (services : Services) (stream : Stream) (s : List ℕ) (b : Bytes s) wh
         passes = i.tests.1.1.1.1.0;
       })
 
-  pub taken_accepted : (es : List Entry) → entries services (Some stream) s ≡ Ok es → All (Accepted services stream) es
+  pub taken_accepted : (es : List Entry) → entries services (Some stream) s ≡ Ok es → AllByRecursion (Accepted services stream) es
   taken_accepted es q =
       let h = then_ok (head_reading services (Some stream) s) (λ head. entries_from services head s 12) es q in
       let p = passed (head_tests services (Some stream) s) (Ok (head_of services s)) h.0 h.1 in

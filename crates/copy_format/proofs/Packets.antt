@@ -1,6 +1,6 @@
 -- Which items may stand in one packet. Assumes nothing.
 use Rattle.std.proofs.Common.{◌≡◌, ℕ, ◌+◌, ◌≤◌, Bool, true, false, ◌&&◌, ◌||◌, eqb, leb, List, [], ◌∷◌, ◌++◌, length, refl, ap, ◌∙◌, arith}
-use Rattle.std.specs.List.{AllByRecursion as All}
+use Rattle.std.specs.List.{AllByRecursion}
 use Rattle.std.proofs.lemmas.Bool.{and_parts, and_from, leb-true, le-leb, eqb-true}
 use Rattle.copy_format.specs.Cutting.{flat, cut}
 use Rattle.copy_format.specs.Image.{type_in}
@@ -77,7 +77,7 @@ module _ (shares : ℕ → Bool) (limit : ℕ) where
   back (i ∷ p) s h = back p s (rest i (p ++ s) h)
 
   -- no fewer packets hold the same items
-  pub fewest_packets : (is : List Item) (ps : List (List Item)) → All (Passes (allowed shares limit)) ps → flat ps ≡ is
+  pub fewest_packets : (is : List Item) (ps : List (List Item)) → AllByRecursion (Passes (allowed shares limit)) ps → flat ps ≡ is
       → length (cut (allowed shares limit) is) ≤ length ps
   fewest_packets is ps h e = minimal (allowed shares limit) front back is ps h e
 

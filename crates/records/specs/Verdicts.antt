@@ -1,6 +1,6 @@
 -- What a record kind says of flags and data, and the law that every kind keeps.
 use Rattle.std.specs.Prelude.{◌≡◌, ℕ, ◌^◌, ◌<◌, ◌≤◌, cond, List, [], length, ℤ, Ok, Err, Result, ◌==◌}
-use Rattle.std.specs.List.{AllByRecursion as All}
+use Rattle.std.specs.List.{AllByRecursion}
 use Rattle.records.specs.declared.refusal.RecordRefusal.{RecordRefusal}
 use Rattle.records.specs.declared.refusal.WriteRefusal.{WriteRefusal}
 use Rattle.records.specs.declared.refusal.WriteRefusal.TheVariants.{Record, PartLength}
@@ -40,7 +40,7 @@ Filled (Ok flags) canonical before after = after ≡ canonical
 Filled (Err refusal) canonical before after = after ≡ before
 
 abbrev pub Bytes : List ℕ → Type 0
-Bytes bs = All (λ b. b < 256) bs
+Bytes bs = AllByRecursion (λ b. b < 256) bs
 
 -- of an accepted record
 pub record Canonical (verdict : ℕ → List ℕ → Verdict) (data' : List ℕ) (sense : List ℤ) (flags : ℕ) (canonical : List ℕ) : Type 0 where
