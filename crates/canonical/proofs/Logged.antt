@@ -20,7 +20,7 @@ use Rattle.copy_format.specs.Items.{item_of}
 use Rattle.copy_format.proofs.Cuts.{flat-cut}
 use Rattle.copy_format.proofs.Lengths.{length-word}
 use Rattle.canonical.specs.Calls.{stream_of, Addition, Typed, entry_of, reaching, Leaves, add_tests, room, taken, listed, entries_in, closing, Closes}
-use Rattle.canonical.specs.Log.{Log, open_done, add, take-packet, close_refused, add_elsewhere, take_elsewhere, close_elsewhere, accepted_if, Faithful, AnyLog}
+use Rattle.canonical.specs.Log.{Log, open_done, add, take_packet, close_refused, add_elsewhere, take_elsewhere, close_elsewhere, accepted_if, Faithful, AnyLog}
 use Rattle.canonical.specs.States.{spliced, after_all, put_all}
 use Rattle.canonical.specs.declared.state.Closed.{Closed}
 use Rattle.canonical.specs.declared.state.State.{State}
@@ -88,7 +88,7 @@ module _ (services : Services) (law : (code : Code) → LawfulService (services 
       moved services s s out out [] es refl refl z (stands_opened services (type_of direction) device s out (stream_of (type_of direction) device) refl o)
   logged (add {s = s} {s' = s'} {out = out} {out' = out'} {es = es} {es' = es'} log a r t c z) =
       stands_left s s' out out' es es' (entry_of s.stream a ∷ []) r (logged log) (λ q. let i = added_accepted s a (length out) t (sym c.0 ∙ q) in ((i.0, tt), i.1)) c.1 z
-  logged (take-packet {s = s} {s' = s'} {out = out} {out' = out'} {es = es} {es' = es'} log packet r b c z) =
+  logged (take_packet {s = s} {s' = s'} {out = out} {out' = out'} {es = es} {es' = es'} log packet r b c z) =
       stands_left s s' out out' es es' (entries_in services s packet) r (logged log) (λ q. taken_fits s packet (length out) b (sym c.0 ∙ q)) c.1 z
   logged (close_refused {s = s} {out = out} {out' = out'} {es = es} log w c) = moved services s s out out' es es refl c.1 refl (logged log)
   logged (add_elsewhere {s = s} {s' = s'} {out = out} {es = es} log a other other' c) = moved services s s' out out es es c.1.0 refl refl (logged log)

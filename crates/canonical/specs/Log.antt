@@ -23,7 +23,7 @@ pub data Log (services : Services) : State → List ℕ → List Entry → Type 
   add : {s s' : State} {out out' : List ℕ} {es es' : List Entry} → Log services s out es
       → (a : Addition) (r : Result (Unit {0}) Refusal) → Typed a → Adds services s out a r s' out'
       → es' ≡ es ++ accepted_if r (entry_of s.stream a ∷ []) → Log services s' out' es'
-  take-packet : {s s' : State} {out out' : List ℕ} {es es' : List Entry} → Log services s out es
+  take_packet : {s s' : State} {out out' : List ℕ} {es es' : List Entry} → Log services s out es
       → (packet : List ℕ) (r : Result (Unit {0}) Refusal) → Bytes packet → Takes services s out packet r s' out'
       → es' ≡ es ++ accepted_if r (entries_in services s packet) → Log services s' out' es'
   close_refused : {s : State} {out out' : List ℕ} {es : List Entry} → Log services s out es

@@ -1,10 +1,9 @@
 // The entries of a whole packet: how far the copy would reach with them, and writing them.
 ghost use Rattle.std.specs.Prelude.{◌≡◌, ◌≤◌, true, length, is_ok};
-ghost use Rattle.tecmp.specs.Entries.{entries_from};
 ghost use Rattle.canonical.specs.Calls.{listed};
 ghost use Rattle.canonical.specs.Sound.{Counted};
 ghost use Rattle.canonical.specs.States.{after_all, put_all};
-ghost use Rattle.canonical.specs.Surveys.{surveyed, CountedIf};
+ghost use Rattle.canonical.specs.Surveys.{entries_after, surveyed, CountedIf};
 
 use crate::state::{Extent, State};
 use crate::writer::{ENTRY_HEAD, canonical_length, enter, shares_packets};
@@ -21,7 +20,7 @@ pub(crate) fn survey<R: Registry>(
     packet: &[u8],
 ) -> Result<Extent, Refusal>
     requires { (Counted extent) × ((extent.length ≤ 16777216) × (length packet.now ≤ 1500)) }
-    ensures answer { result ≡ surveyed (R.Registry.services registry.now) extent (entries_from (R.Registry.services registry.now) head packet.now 12) }
+    ensures answer { result ≡ surveyed (R.Registry.services registry.now) extent (entries_after (R.Registry.services registry.now) head packet.now 12) }
     ensures counted { CountedIf result }
 {
     let mut reached = extent;
@@ -44,12 +43,12 @@ pub(crate) fn enter_all<R: Registry>(
     packet: &[u8],
     out: &mut [u8],
 ) -> Extent
-    requires read { is_ok (entries_from (R.Registry.services registry.now) head packet.now 12) ≡ true }
+    requires read { is_ok (entries_after (R.Registry.services registry.now) head packet.now 12) ≡ true }
     requires counted { (Counted state.extent) × (length out.old ≤ 16777216) }
-    requires fits { (after_all (R.Registry.services registry.now) state.extent (listed (entries_from (R.Registry.services registry.now) head packet.now 12))).length ≤ length out.old }
-    ensures extent { result ≡ after_all (R.Registry.services registry.now) state.extent (listed (entries_from (R.Registry.services registry.now) head packet.now 12)) }
+    requires fits { (after_all (R.Registry.services registry.now) state.extent (listed (entries_after (R.Registry.services registry.now) head packet.now 12))).length ≤ length out.old }
+    ensures extent { result ≡ after_all (R.Registry.services registry.now) state.extent (listed (entries_after (R.Registry.services registry.now) head packet.now 12)) }
     ensures counted { Counted result }
-    ensures output { out.new ≡ put_all (R.Registry.services registry.now) state.stream state.extent (listed (entries_from (R.Registry.services registry.now) head packet.now 12)) out.old }
+    ensures output { out.new ≡ put_all (R.Registry.services registry.now) state.stream state.extent (listed (entries_after (R.Registry.services registry.now) head packet.now 12)) out.old }
 {
     let mut state = state;
     let mut next = FIRST_ENTRY;

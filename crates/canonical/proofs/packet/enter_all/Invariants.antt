@@ -1,7 +1,7 @@
 use Rattle.std.proofs.Common.{◌≡◌, ◌-◌, ◌≤◌, true, length, is_ok}
-use Rattle.tecmp.specs.Entries.{entries_from}
 use Rattle.canonical.specs.Calls.{listed}
 use Rattle.canonical.specs.Sound.{Counted}
+use Rattle.canonical.specs.Surveys.{entries_after}
 use Rattle.canonical.specs.States.{after_all, put_all}
 use Rattle.canonical.proofs.packet.enter_all.Given as goal
 
@@ -9,8 +9,8 @@ use Rattle.canonical.proofs.packet.enter_all.Given as goal
 abbrev pub invariant-loop-read : goal.invariant-loop-read
 invariant-loop-read g l =
     let services = g.R.Registry.services l.registry in
-    let all = entries_from services l.head l.packet 12 in
-    let left = entries_from services l.head l.packet l.next in
+    let all = entries_after services l.head l.packet 12 in
+    let left = entries_after services l.head l.packet l.next in
     (is_ok left ≡ true)
     × Counted l.state.extent
     × (after_all services l.initial.state.extent (listed all) ≡ after_all services l.state.extent (listed left))

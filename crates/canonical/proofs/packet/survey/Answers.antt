@@ -1,38 +1,42 @@
-use Rattle.std.proofs.Common.{◌≡◌, ◌+◌, ◌*◌, ◌≤◌, Some, None, Ok, Err, sym, refl, ap, ◌∙◌, arith}
-use Rattle.std.proofs.lemmas.Result.{err_from_is_err_and}
-use Rattle.tecmp.specs.Entries.{entries_from, onward}
-use Rattle.tecmp.specs.Reading.{inside}
-use Rattle.tecmp.specs.Views.{found, read_as}
-use Rattle.tecmp.proofs.Walks.{Entered, entered, entered_accepted, entries_on, further}
-use Rattle.canonical.specs.Surveys.{surveyed}
-use Rattle.canonical.proofs.Walked.{surveyed_more}
-use Rattle.canonical.proofs.packet.survey.Given as given
+use Rattle.std.proofs.Common.{◌≡◌, ◌+◌, ◌*◌, ◌≤◌, Some, ap, ◌∙◌, ap₂, sym, arith}
+use Rattle.tecmp.specs.Views.{read_as}
+use Rattle.canonical.specs.Surveys.{entries_after, surveyed}
+use Rattle.canonical.specs.States.{extended, joined_by}
+use Rattle.canonical.specs.declared.state.Extent.{Extent}
+use Rattle.canonical.proofs.Walked.{surveyed_more, next_after, was_read, came, came_accepted}
 use Rattle.canonical.proofs.packet.survey.Goals as goal
 
--- what was read
-was : (g : given.Over) (c : goal.In-Some g) → inside (g.R.Registry.services c.args.registry.now) c.args.head c.args.packet.now c.loop-read.next ≡ Ok (Some (read_as c.in-Some.read))
-was g c = sym c.in_ok-read.ensures ∙ ap (λ o. Ok (found o)) c.in-Some.is
-
-is : (g : given.Over) (c : goal.In-Some g) → Entered (g.R.Registry.services c.args.registry.now) c.args.head c.args.packet.now c.loop-read.next (read_as c.in-Some.read)
-is g c = entered _ _ _ _ _ (was g c)
-
-pub loop-read-init : goal.loop-read-init
-loop-read-init g c = (refl, c.requires.0, omega arith, omega arith)
-
-pub returns-in_err-read : goal.returns-in_err-read
-returns-in_err-read g c = ?
-
 pub canonical_length-count-requires : goal.canonical_length-count-requires
-canonical_length-count-requires g c = entered_accepted _ _ _ _ _ (is g c)
-
-pub extend-reached-requires : goal.extend-reached-requires
-extend-reached-requires g c = ?
+canonical_length-count-requires g c =
+    let services = g.R.Registry.services c.args.registry.now in
+    let s = c.args.packet.now in
+    let was = was_read services c.args.head s c.loop-read.next c.in_ok-read.field-0 c.in-Some.read c.in_ok-read.ensures c.in-Some.is in
+    came_accepted services c.args.head s c.loop-read.next (read_as c.in-Some.read) was
 
 pub loop-read-smaller : goal.loop-read-smaller
-loop-read-smaller g c = let i = is g c in omega (arith, i.ahead, i.within)
+loop-read-smaller g c =
+    let services = g.R.Registry.services c.args.registry.now in
+    let s = c.args.packet.now in
+    let was = was_read services c.args.head s c.loop-read.next c.in_ok-read.field-0 c.in-Some.read c.in_ok-read.ensures c.in-Some.is in
+    let i = came services c.args.head s c.loop-read.next (read_as c.in-Some.read) was in
+    omega (arith, i.ahead, i.within)
 
 pub loop-read-preserved : goal.loop-read-preserved
-loop-read-preserved g c = ?
-
-pub returns : goal.returns
-returns g c = ?
+loop-read-preserved g c =
+    let services = g.R.Registry.services c.args.registry.now in
+    let head = c.args.head in
+    let s = c.args.packet.now in
+    let at = c.loop-read.next in
+    let x : Extent = c.loop-read.reached in
+    let f = read_as c.in-Some.read in
+    let was = was_read services head s at c.in_ok-read.field-0 c.in-Some.read c.in_ok-read.ensures c.in-Some.is in
+    let i = came services head s at f was in
+    let left = entries_after services head s f.next in
+    let grown = c.extend-reached.ensures.is
+    ∙ ap₂ {C = Extent} (λ shares n. extended x (joined_by x.last shares f.entry.code.data_type (16 + n)) f.entry.code.data_type (16 + n)) c.shares_packets-shares.ensures c.canonical_length-count.ensures.is in
+    (
+      c.loop-read.invariant.0 ∙ ap (surveyed services x) (next_after services head s at f was) ∙ surveyed_more services x f.entry left ∙ ap (λ y. surveyed services y left) (sym grown),
+      c.extend-reached.ensures.counted,
+      omega (arith, i.ahead),
+      omega (arith, i.within),
+    )
