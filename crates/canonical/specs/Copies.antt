@@ -5,6 +5,7 @@ use Rattle.records.specs.declared.refusal.Refusal.{Refusal}
 use Rattle.tecmp.specs.Reading.{Entry}
 use Rattle.copy_format.specs.Items.{item_of}
 use Rattle.canonical.specs.Calls.{Closes}
+use Rattle.canonical.specs.Log.{AnyLog}
 use Rattle.canonical.specs.States.{after}
 use Rattle.canonical.specs.declared.copy.CanonicalCopy.{CanonicalCopy}
 use Rattle.canonical.specs.declared.state.Closed.{Closed}
@@ -29,5 +30,5 @@ Measured services s e (Err refusal) = Unit {0}
 
 -- closed: what closing answers and writes, and, whatever calls led here, what the bytes then are; or refused, and the copy back
 abbrev pub ClosedWith : {R : Type 0} → Services → CanonicalCopy R → List ℕ → List ℕ → Result Closed (Refusal × CanonicalCopy R) → Type 0
-ClosedWith services copy out out' (Ok c) = Closes copy.state out (Ok c) out'
+ClosedWith services copy out out' (Ok c) = Closes copy.state out (Ok c) out' × AnyLog services copy.state out c out'
 ClosedWith services copy out out' (Err back) = Closes copy.state out (Err back.0) out' × (back.1 ≡ copy)

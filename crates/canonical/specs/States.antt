@@ -1,5 +1,5 @@
 -- How far a copy reaches after an entry, and what its output then holds.
-use Rattle.std.specs.Prelude.{◌≡◌, ℕ, ◌+◌, ◌*◌, ◌≤◌, Bool, true, false, cond, ◌&&◌, List, [], ◌∷◌, ◌++◌, length, take, drop, replicate, Some, None, Option, ◌==◌, nat_le}
+use Rattle.std.specs.Prelude.{ℕ, ◌+◌, Bool, cond, ◌&&◌, List, [], ◌∷◌, ◌++◌, length, take, drop, replicate, Some, None, Option, ◌==◌, nat_le}
 use Rattle.records.specs.Services.{Services, shares_in}
 use Rattle.tecmp.specs.Reading.{Entry}
 use Rattle.tecmp.specs.declared.head.Stream.{Stream}
@@ -7,7 +7,6 @@ use Rattle.copy_format.specs.Image.{packet_limit, packet_head, item_bytes, word,
 use Rattle.copy_format.specs.Items.{Item, item_of, size}
 use Rattle.canonical.specs.declared.state.OpenPacket.{OpenPacket}
 use Rattle.canonical.specs.declared.state.Extent.{Extent}
-use Rattle.canonical.specs.declared.state.State.{State}
 
 -- a packet of n bytes with its word and its filling
 abbrev pub frame : ℕ → ℕ

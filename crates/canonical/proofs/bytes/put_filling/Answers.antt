@@ -1,4 +1,4 @@
-use Rattle.std.proofs.Common.{◌≡◌, ℕ, ◌-◌, ◌%◌, ◌<◌, [], ◌∷◌, length, take, drop, replicate, ap, ◌∙◌, arith}
+use Rattle.std.proofs.Common.{ap, ◌∙◌, arith}
 use Rattle.canonical.specs.States.{spliced}
 use Rattle.copy_format.specs.Image.{filling}
 use Rattle.canonical.proofs.Splices.{zeros_front}

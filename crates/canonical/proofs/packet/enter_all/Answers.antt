@@ -1,7 +1,7 @@
-use Rattle.std.proofs.Common.{◌≡◌, ℕ, ◌≤◌, List, ◌∷◌, true, length, is_ok, Some, Ok, Err, ap, ◌∙◌, ap₂, sym, refl, arith}
+use Rattle.std.proofs.Common.{ℕ, List, ap, ◌∙◌, ap₂, sym, refl, arith}
 use Rattle.tecmp.specs.Views.{read_as}
 use Rattle.canonical.specs.Calls.{listed}
-use Rattle.canonical.specs.States.{after, put, after_all, put_all}
+use Rattle.canonical.specs.States.{after, after_all, put_all}
 use Rattle.canonical.specs.Surveys.{entries_after}
 use Rattle.canonical.specs.declared.state.Extent.{Extent}
 use Rattle.canonical.proofs.Growth.{grows_all}
@@ -54,8 +54,7 @@ loop-read-preserved g c =
     let f = read_as c.in-Ok-Some.read in
     let was = was_read services head s c.loop-read.next c.in-Ok-Some.field-0 c.in-Ok-Some.read c.in-Ok-Some.ensures c.in-Ok-Some.field-0-is in
     let after_it = listed_after services head s c.loop-read.next f was c.loop-read.invariant.0 in
-    let rest = listed (entries_after services head s f.next) in
-    (
+    let rest = listed (entries_after services head s f.next) in (
       after_it.0,
       c.enter-state.ensures.counted,
       c.loop-read.invariant.2 ∙ ap (after_all services x) after_it.1 ∙ ap (λ y. after_all services y rest) (sym c.enter-state.ensures.extent),

@@ -1,4 +1,4 @@
-use Rattle.std.proofs.Common.{◌≡◌, ◌-◌, ◌≤◌, true, length, is_ok}
+use Rattle.std.proofs.Common.{◌≡◌, ◌-◌, true, length, is_ok}
 use Rattle.canonical.specs.Calls.{listed}
 use Rattle.canonical.specs.Sound.{Counted}
 use Rattle.canonical.specs.Surveys.{entries_after}

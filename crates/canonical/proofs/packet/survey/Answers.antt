@@ -1,4 +1,4 @@
-use Rattle.std.proofs.Common.{◌≡◌, ◌+◌, ◌*◌, ◌≤◌, Some, ap, ◌∙◌, ap₂, sym, arith}
+use Rattle.std.proofs.Common.{◌+◌, ap, ◌∙◌, ap₂, sym, arith}
 use Rattle.tecmp.specs.Views.{read_as}
 use Rattle.canonical.specs.Surveys.{entries_after, surveyed}
 use Rattle.canonical.specs.States.{extended, joined_by}
@@ -33,8 +33,7 @@ loop-read-preserved g c =
     let i = came services head s at f was in
     let left = entries_after services head s f.next in
     let grown = c.extend-reached.ensures.is
-    ∙ ap₂ {C = Extent} (λ shares n. extended x (joined_by x.last shares f.entry.code.data_type (16 + n)) f.entry.code.data_type (16 + n)) c.shares_packets-shares.ensures c.canonical_length-count.ensures.is in
-    (
+    ∙ ap₂ {C = Extent} (λ shares n. extended x (joined_by x.last shares f.entry.code.data_type (16 + n)) f.entry.code.data_type (16 + n)) c.shares_packets-shares.ensures c.canonical_length-count.ensures.is in (
       c.loop-read.invariant.0 ∙ ap (surveyed services x) (next_after services head s at f was) ∙ surveyed_more services x f.entry left ∙ ap (λ y. surveyed services y left) (sym grown),
       c.extend-reached.ensures.counted,
       omega (arith, i.ahead),

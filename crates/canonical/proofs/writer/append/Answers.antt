@@ -1,4 +1,4 @@
-use Rattle.std.proofs.Common.{◌≡◌, ℕ, ◌+◌, ◌≤◌, List, length, replicate, sym, refl, ap, ◌∙◌, ap₂, arith}
+use Rattle.std.proofs.Common.{◌≡◌, ℕ, ◌+◌, List, length, replicate, sym, refl, ap, ◌∙◌, ap₂, arith}
 use Rattle.tecmp.specs.Views.{viewed}
 use Rattle.copy_format.specs.Image.{entry_head, word, filling}
 use Rattle.copy_format.specs.Items.{item_of}
