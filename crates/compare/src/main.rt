@@ -62,7 +62,7 @@ fn run(rt: &HostRuntime) -> Result<(), Failure> {
     }
 }
 
-// What is wrong has been said by then, so the error itself is not printed.
+// A refusal, a difference and a file error have been printed by then; the error itself is not.
 fn main(rt: HostRuntime) -> ExitCode {
     match run(&rt) {
         Ok(()) => ExitCode::SUCCESS,
