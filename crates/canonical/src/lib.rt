@@ -1,4 +1,4 @@
-// The canonical copy: open, add, take, close.
+// The canonical copy: open, add, close.
 #![tactic(auto)]
 
 mod bytes;

@@ -104,7 +104,7 @@ pub fn read_entry<'p, R: Registry>(
     }
 }
 
-// Counts the entries of a packet from an offset on.
+// Counts the entries of a packet, by the head that `read_head` gave.
 fn count_inside<R: Registry>(registry: &R, head: Head, packet: &[u8]) -> Result<usize, Refusal>
     ensures { result ≡ counted 0 (entries_by (R.Registry.services registry.now head.code) head.shares head.code packet.now 12) }
 {
