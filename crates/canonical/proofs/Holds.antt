@@ -1,7 +1,8 @@
 -- An output holds the packets of a list of entries, and a copy's numbers tell of them; also after one entry more. Assumes nothing.
 use Rattle.std.proofs.Common.{◌≡◌, ℕ, ◌+◌, ◌≤◌, true, false, ◌&&◌, eqb, leb, List, [], ◌∷◌, ◌++◌, map, length, take, Some, None, Option, sym, refl, ap, ◌∙◌, subst, ap₂, arith}
 use Rattle.std.specs.List.{AllByRecursion}
-use Rattle.std.proofs.ByRecursion.{All-push}
+use Rattle.std.proofs.ByRecursion.{All-push, All-drop}
+use Rattle.std.proofs.Math.Seq.{drop-append_seam}
 use Rattle.std.proofs.lemmas.List.{append_assoc, length_push}
 use Rattle.std.proofs.lemmas.Bool.{cond_both}
 use Rattle.records.specs.Services.{Services, LawfulService, shares_in}
@@ -14,7 +15,7 @@ use Rattle.copy_format.proofs.Cuts.{Passes, grow, cut-push, cut_joins, cut_begin
 use Rattle.copy_format.proofs.Lengths.{room, length-packet_head}
 use Rattle.copy_format.proofs.Packets.{joins}
 use Rattle.canonical.specs.States.{frame, packet_for, packets_with, extended, begun, appended, joined_by, joined_in, after, put}
-use Rattle.canonical.specs.declared.state.Extent.{Extent}
+use Rattle.canonical.specs.Extents.{Extent}
 use Rattle.canonical.specs.declared.state.OpenPacket.{OpenPacket}
 use Rattle.canonical.proofs.Accepted.{Accepted, may_stand, shares_as, packets_more, packets_pass}
 use Rattle.canonical.proofs.Places.{length-spliced}
@@ -32,10 +33,6 @@ pub record Holds (services : Services) (stream : Stream) (x : Extent) (out : Lis
   pub packets_are : x.packets ≡ length (packets_of services stream es)
   pub last_is : LastIs (packets_of services stream es) x.last
   pub accepted : AllByRecursion (Accepted services stream) es
-
-all_last : {A : Type 0} (P : A → Type 0) (xs : List A) (y : A) → AllByRecursion P (xs ++ y ∷ []) → P y
-all_last P [] y h = h.0
-all_last P (x ∷ xs) y h = all_last P xs y h.1
 
 module _ (services : Services) (law : (code : Code) → LawfulService (services code)) (stream : Stream)
     (x : Extent) (out : List ℕ) (es : List Entry) (h : Holds services stream x out es) (e : Entry) (a : Accepted services stream e) where
@@ -78,7 +75,9 @@ module _ (services : Services) (law : (code : Code) → LawfulService (services 
 
   module _ (p : OpenPacket) (t : Tail ps p) where
     passes : Passes (may_stand services stream) t.last
-    passes = all_last (Passes (may_stand services stream)) t.front t.last (subst (AllByRecursion (Passes (may_stand services stream))) t.split (packets_pass services stream law es h.accepted))
+    passes =
+        let all : AllByRecursion (Passes (may_stand services stream)) (t.front ++ t.last ∷ []) = subst (AllByRecursion (Passes (may_stand services stream))) t.split (packets_pass services stream law es h.accepted) in
+        (rw drop-append_seam at (All-drop (Passes (may_stand services stream)) (length t.front) (t.front ++ t.last ∷ []) all)).0
 
     -- the test on the numbers is the test on the packet
     test_is : may_stand services stream (t.last ++ item ∷ []) ≡ (leb (p.size + size item) packet_limit && (eqb p.data_type type && shares_in (services e.code)))

@@ -1,6 +1,5 @@
 pub mod Accepted
 pub mod Appends
-pub mod Extents
 pub mod Growth
 pub mod Holds
 pub mod Logged

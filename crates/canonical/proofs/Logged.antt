@@ -1,5 +1,5 @@
 -- Whatever the calls were, a copy stands for the entries that it has accepted, and closing it writes their image. Assumes nothing.
-use Rattle.std.proofs.Common.{◌≡◌, ℕ, ◌+◌, ◌≤◌, true, eqb, ltb, leb, List, [], ◌∷◌, ◌++◌, map, length, take, Some, Ok, Err, Result, sym, refl, ap, ◌∙◌, subst, arith}
+use Rattle.std.proofs.Common.{◌≡◌, ℕ, ◌+◌, ◌≤◌, eqb, ltb, leb, List, [], ◌∷◌, ◌++◌, map, length, take, Some, Ok, Err, Result, sym, refl, ap, ◌∙◌, subst, arith}
 use Rattle.std.specs.List.{AllByRecursion}
 use Rattle.std.proofs.lemmas.List.{append-nil, length-map}
 use Rattle.std.proofs.lemmas.Bool.{leb-true}
@@ -11,7 +11,7 @@ use Rattle.records.specs.declared.code.Code.{Code}
 use Rattle.records.specs.declared.code.MessageType.{MessageType}
 use Rattle.records.specs.declared.refusal.Refusal.{Refusal}
 use Rattle.records.specs.declared.refusal.Refusal.TheVariants.{OutputLength, NoEntries, OutputFull}
-use Rattle.records.proofs.Tested.{passed, tested_passed}
+use Rattle.records.proofs.Tested.{passed}
 use Rattle.tecmp.specs.Entries.{entries}
 use Rattle.tecmp.specs.Reading.{Entry}
 use Rattle.copy_format.specs.Cutting.{flat}
@@ -115,11 +115,6 @@ module _ (services : Services) (law : (code : Code) → LawfulService (services 
     entries = st.holds.entries_are;
     packets = st.holds.packets_are;
   }
-
--- closing that passes its tests
-pub closes : (s : State) (out out' : List ℕ) → eqb (length out) s.capacity ≡ true → ltb 0 s.extent.entries ≡ true → out' ≡ spliced out s.extent.length (word 2 s.extent.entries)
-    → Closes s out (Ok (closing s)) out'
-closes s out out' own some w = (sym (tested_passed ((eqb (length out) s.capacity, OutputLength) ∷ (ltb 0 s.extent.entries, NoEntries) ∷ []) (Ok (closing s)) (own, (some, tt))), w)
 
 -- a closed copy is the image of what it has accepted
 pub faithful : (services : Services) → ((code : Code) → LawfulService (services code)) → (s : State) (out : List ℕ) (c : Closed) (out' : List ℕ)

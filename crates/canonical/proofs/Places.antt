@@ -1,11 +1,8 @@
 -- What an output holds before, at and after a write, and at a packet that it begins with. Assumes nothing.
-use Rattle.std.proofs.Common.{◌≡◌, ℕ, ◌+◌, ◌-◌, ◌≤◌, List, [], ◌∷◌, ◌++◌, length, take, drop, sym, refl, ap, ◌∙◌, suc-add, zero-add, arith}
+use Rattle.std.proofs.Common.{◌≡◌, ℕ, ◌+◌, ◌-◌, ◌≤◌, List, ◌++◌, length, take, drop, sym, refl, ap, ◌∙◌, arith}
 use Rattle.std.proofs.lemmas.List.{append_assoc, length-append, length-drop, length-take-le, take_at, drop_at, drop-drop, drop-take, take-take, take-append-le}
+use Rattle.std.proofs.Math.Seq.{take-append-add}
 use Rattle.canonical.specs.States.{spliced}
-
-take_over : (xs bs : List ℕ) (u : ℕ) → take (length xs + u) (xs ++ bs) ≡ xs ++ take u bs
-take_over [] bs u = rw zero-add
-take_over (x ∷ xs) bs u = rw (suc-add (length xs) u) (ap (λ r. x ∷ r) (take_over xs bs u))
 
 module _ (out xs : List ℕ) (p : ℕ) (fits : p + length xs ≤ length out) where
   pub length-spliced : length (spliced out p xs) ≡ length out
@@ -42,7 +39,7 @@ module _ (out xs : List ℕ) (p : ℕ) (fits : p + length xs ≤ length out) whe
       let d : List ℕ = drop (p + length xs) out in
       ap (take ((p + length xs) + u)) (sym (append_assoc (take p out) xs d))
       ∙ ap (λ k. take (k + u) (a ++ d)) (sym front_long)
-      ∙ take_over a d u
+      ∙ take-append-add a d u
       ∙ append_assoc (take p out) xs (take u d)
 
 -- a word at p, and after u bytes more x

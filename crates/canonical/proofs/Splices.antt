@@ -1,5 +1,5 @@
 -- Writes into the middle of an output. Assumes nothing.
-use Rattle.std.proofs.Common.{◌≡◌, ℕ, zero, suc, ◌+◌, ◌-◌, ◌<◌, ◌≤◌, List, [], ◌∷◌, ◌++◌, length, take, drop, replicate, sym, ap, ◌∙◌, append_assoc, arith}
+use Rattle.std.proofs.Common.{◌≡◌, ℕ, ◌+◌, ◌-◌, ◌≤◌, List, ◌++◌, length, take, drop, sym, ap, ◌∙◌, append_assoc, arith}
 use borrow.Rule.Slice.PartMut.{put_mid}
 use Rattle.std.proofs.lemmas.List.{length-append, length-take-le, take_at, take-take, take-append-le, drop_at, drop-drop}
 use Rattle.canonical.specs.States.{spliced}
@@ -7,14 +7,6 @@ use Rattle.canonical.specs.States.{spliced}
 -- what a write to `out[a..a + n]` leaves
 pub put_is : (a n : ℕ) (out ys : List ℕ) → length ys ≡ n → put_mid a (a + n - a) out ys ≡ spliced out a ys
 put_is a n out ys h = let k : a + n - a ≡ length ys = omega arith in rw (k, drop-drop)
-
--- up to three zeros, from three of them
-pub zeros_front : (k n : ℕ) → k ≡ n → n < 4 → take {A = ℕ} (k - 0) (0 ∷ (0 ∷ (0 ∷ []))) ≡ replicate n 0
-zeros_front k zero e h = let z : k - 0 ≡ 0 = omega arith in rw z
-zeros_front k (suc zero) e h = let z : k - 0 ≡ 1 = omega arith in rw z
-zeros_front k (suc (suc zero)) e h = let z : k - 0 ≡ 2 = omega arith in rw z
-zeros_front k (suc (suc (suc zero))) e h = let z : k - 0 ≡ 3 = omega arith in rw z
-zeros_front k (suc (suc (suc (suc n)))) e h = absurd (omega arith)
 
 module _ (out xs : List ℕ) (p : ℕ) (room : p + length xs ≤ length out) where
   long : length (take p out ++ xs) ≡ p + length xs

@@ -1,6 +1,7 @@
 -- A copy's state and its own output stand for the entries that it has accepted, from its opening on. Assumes nothing.
-use Rattle.std.proofs.Common.{◌≡◌, ℕ, ◌≤◌, Bool, true, false, cond, ◌&&◌, eqb, leb, List, [], ◌∷◌, length, Some, None, Ok, Option, sym, refl, subst, arith}
+use Rattle.std.proofs.Common.{◌≡◌, ℕ, ◌≤◌, ◌&&◌, eqb, leb, List, [], ◌∷◌, length, Some, None, Ok, Option, sym, refl, subst, arith}
 use Rattle.std.proofs.lemmas.Bool.{and_parts, leb-true, cond-true}
+use Rattle.std.proofs.lemmas.Option.{cond_some}
 use Rattle.records.specs.Services.{Services}
 use Rattle.records.specs.declared.code.MessageType.{MessageType}
 use Rattle.records.specs.declared.code.MessageType.TheVariants.{LoggingStream, ReplayData}
@@ -25,25 +26,21 @@ moved services s s' out out' es es' a b c st =
     subst (λ t. Stands services t out' es') (sym a) (subst (λ o. Stands services s o es') (sym b) (subst (Stands services s out) (sym c) st))
 
 -- opening
-some_if : (b : Bool) (x y : Stream) → cond b (Some x) None ≡ Some y → (b ≡ true) × (x ≡ y)
-some_if true x y e = (refl, cc)
-some_if false x y e = let z : ◌≡◌ {A = ℕ} 0 1 = cc in absurd (omega arith)
-
 own_stream : (o : Option MessageType) (device : ℕ) (stream : Stream) → stream_of o device ≡ Some stream
     → stream_of (Some stream.message_type) stream.«module» ≡ Some stream
-own_stream None device stream e = let z : ◌≡◌ {A = ℕ} 0 1 = cc in absurd (omega arith)
+own_stream None device stream e = cc
 own_stream (Some LoggingStream) device stream e =
     let x : Stream = record { message_type = LoggingStream; «module» = device } in
-    let h = some_if (leb device 255) x stream e in
+    let h = cond_some (leb device 255) x stream e in
     subst (λ (y : Stream). stream_of (Some y.message_type) y.«module» ≡ Some y) h.1 (cond-true (leb device 255) (Some x) None h.0)
 own_stream (Some ReplayData) device stream e =
     let x : Stream = record { message_type = ReplayData; «module» = device } in
-    let h = some_if (eqb device 0) x stream e in
+    let h = cond_some (eqb device 0) x stream e in
     subst (λ (y : Stream). stream_of (Some y.message_type) y.«module» ≡ Some y) h.1 (cond-true (eqb device 0) (Some x) None h.0)
 
 pub stands_opened : (services : Services) (type : Option MessageType) (device : ℕ) (s : State) (out : List ℕ) (o : Option Stream) → stream_of type device ≡ o
     → opened_into (length out) o ≡ Ok s → Stands services s out []
-stands_opened services type device s out None q e = let z : ◌≡◌ {A = ℕ} 0 1 = cc in absurd (omega arith)
+stands_opened services type device s out None q e = cc
 stands_opened services type device s out (Some stream) q e =
     let x : State = record { stream = stream; capacity = length out; extent = nothing } in
     let p = passed ((leb 4 (length out) && leb (length out) 16777216, OutputLength) ∷ []) (Ok x) s e in

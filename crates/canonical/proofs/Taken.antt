@@ -1,5 +1,5 @@
 -- The entries of a packet of the copy's stream are ones that the copy accepts. Assumes nothing.
-use Rattle.std.proofs.Common.{◌≡◌, ℕ, Bool, zero, suc, ◌-◌, ◌^◌, ◌<◌, true, List, [], ◌∷◌, length, drop, Some, None, Ok, Err, Result, sym, refl, subst, arith}
+use Rattle.std.proofs.Common.{◌≡◌, ℕ, Bool, zero, suc, ◌-◌, ◌^◌, ◌<◌, true, List, [], ◌∷◌, length, drop, Some, None, Ok, Err, Result, sym, refl, subst}
 use Rattle.std.specs.List.{AllByRecursion}
 use Rattle.std.proofs.ByRecursion.{All-take, All-drop}
 use Rattle.records.specs.Codes.{same_type}
@@ -20,27 +20,27 @@ use Rattle.canonical.proofs.Ranges.{be2_below, be4_below, be8_below, time_below,
 
 same_type-true : (a b : MessageType) → same_type a b ≡ true → a ≡ b
 same_type-true LoggingStream LoggingStream h = refl
-same_type-true LoggingStream ReplayData h = let z : ◌≡◌ {A = ℕ} 0 1 = cc in absurd (omega arith)
-same_type-true ReplayData LoggingStream h = let z : ◌≡◌ {A = ℕ} 0 1 = cc in absurd (omega arith)
+same_type-true LoggingStream ReplayData h = cc
+same_type-true ReplayData LoggingStream h = cc
 same_type-true ReplayData ReplayData h = refl
 
 pub then_ok : {A B E : Type 0} (r : Result A E) (next : A → Result B E) (y : B) → and_then r next ≡ Ok y → (x : A) × (r ≡ Ok x) × (next x ≡ Ok y)
 then_ok (Ok x) next y e = (x, refl, e)
-then_ok (Err w) next y e = let z : ◌≡◌ {A = ℕ} 0 1 = cc in absurd (omega arith)
+then_ok (Err w) next y e = cc
 
 -- what holds of every entry that stands somewhere holds of all that are read
 module _ (P : Entry → Type 0) where
   none_read : (es : List Entry) → ◌≡◌ {A = Entries} (Ok []) (Ok es) → AllByRecursion P es
   none_read [] e = tt
-  none_read (x ∷ es) e = let z : ◌≡◌ {A = ℕ} 0 1 = cc in absurd (omega arith)
+  none_read (x ∷ es) e = cc
 
   all_before : (e : Entry) (r : Entries) (es : List Entry) → before e r ≡ Ok es → P e → ((fs : List Entry) → r ≡ Ok fs → AllByRecursion P fs) → AllByRecursion P es
   all_before e (Ok fs) es q p rest = let z : e ∷ fs ≡ es = cc in subst (AllByRecursion P) z (p, rest fs refl)
-  all_before e (Err w) es q p rest = let z : ◌≡◌ {A = ℕ} 0 1 = cc in absurd (omega arith)
+  all_before e (Err w) es q p rest = cc
 
   all_onward : (a : Answer) (rest : ℕ → Entries) (es : List Entry) → onward a rest ≡ Ok es
       → ((f : Found) → a ≡ Ok (Some f) → P f.entry) → ((next : ℕ) (fs : List Entry) → rest next ≡ Ok fs → AllByRecursion P fs) → AllByRecursion P es
-  all_onward (Err w) rest es q here there = let z : ◌≡◌ {A = ℕ} 0 1 = cc in absurd (omega arith)
+  all_onward (Err w) rest es q here there = cc
   all_onward (Ok None) rest es q here there = none_read es q
   all_onward (Ok (Some f)) rest es q here there = all_before f.entry (rest f.next) es q (here f refl) (there f.next)
 

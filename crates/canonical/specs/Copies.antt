@@ -1,12 +1,9 @@
 -- What opening and judging answer.
-use Rattle.std.specs.Prelude.{◌≡◌, ℕ, ◌+◌, ◌≤◌, true, List, length, is_ok, Ok, Err, Result}
-use Rattle.records.specs.Services.{Services, checked_by}
+use Rattle.std.specs.Prelude.{◌≡◌, ℕ, List, Ok, Err, Result}
+use Rattle.records.specs.Services.{Services}
 use Rattle.records.specs.declared.refusal.Refusal.{Refusal}
-use Rattle.tecmp.specs.Reading.{Entry}
-use Rattle.copy_format.specs.Items.{item_of}
 use Rattle.canonical.specs.Calls.{Closes}
 use Rattle.canonical.specs.Log.{AnyLog}
-use Rattle.canonical.specs.States.{after}
 use Rattle.canonical.specs.declared.copy.CanonicalCopy.{CanonicalCopy}
 use Rattle.canonical.specs.declared.state.Closed.{Closed}
 use Rattle.canonical.specs.declared.state.State.{State}
@@ -16,17 +13,10 @@ abbrev pub Opened : {R : Type 0} → R → Result State Refusal → Result (Cano
 Opened registry answer (Ok copy) = (answer ≡ Ok copy.state) × (copy.registry.now ≡ registry)
 Opened registry answer (Err refusal) = answer ≡ Err refusal
 
-abbrev pub emptied : Result ℕ Refusal → Result (Unit {0}) Refusal
-emptied (Ok n) = Ok tt
+-- the answer without its value
+abbrev pub emptied : {A : Type 0} → Result A Refusal → Result (Unit {0}) Refusal
+emptied (Ok x) = Ok tt
 emptied (Err refusal) = Err refusal
-
--- of an entry that passes: the length of its canonical data, and that it fits
-abbrev pub Measured : Services → State → Entry → Result ℕ Refusal → Type 0
-Measured services s e (Ok n) =
-    (is_ok (checked_by (services e.code) e.flags e.bytes) ≡ true)
-    × (n ≡ length (item_of services e).bytes) × (1 ≤ n) × (n ≤ 1472)
-    × ((after services s.extent e).length + 4 ≤ s.capacity)
-Measured services s e (Err refusal) = Unit {0}
 
 -- closed: what closing answers and writes, and, whatever calls led here, what the bytes then are; or refused, and the copy back
 abbrev pub ClosedWith : {R : Type 0} → Services → CanonicalCopy R → List ℕ → List ℕ → Result Closed (Refusal × CanonicalCopy R) → Type 0

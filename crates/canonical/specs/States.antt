@@ -6,7 +6,7 @@ use Rattle.tecmp.specs.declared.head.Stream.{Stream}
 use Rattle.copy_format.specs.Image.{packet_limit, packet_head, item_bytes, word, filling}
 use Rattle.copy_format.specs.Items.{Item, item_of, size}
 use Rattle.canonical.specs.declared.state.OpenPacket.{OpenPacket}
-use Rattle.canonical.specs.declared.state.Extent.{Extent}
+use Rattle.canonical.specs.Extents.{Extent}
 
 -- a packet of n bytes with its word and its filling
 abbrev pub frame : ℕ → ℕ
@@ -15,10 +15,14 @@ frame n = 4 + (n + filling n)
 abbrev pub nothing : Extent
 nothing = record { length = 0; entries = 0; packets = 0; last = None }
 
--- the last packet, where an entry of n bytes joins it: the code is the same, shares, and the packet stays within the limit
+-- an entry of n bytes joins a packet: the code is the same, shares, and the packet stays within the limit
+abbrev pub takes : OpenPacket → Bool → ℕ → ℕ → Bool
+takes p shares type n = nat_le (p.size + n) packet_limit && (p.data_type == type && shares)
+
+-- the last packet, where the entry joins it
 abbrev pub joined_by : Option OpenPacket → Bool → ℕ → ℕ → Option OpenPacket
 joined_by None shares type n = None
-joined_by (Some p) shares type n = cond (nat_le (p.size + n) packet_limit && (p.data_type == type && shares)) (Some p) None
+joined_by (Some p) shares type n = cond (takes p shares type n) (Some p) None
 
 -- the packet that the entry goes into: the one it joins, or a new one, of which only the head is there
 abbrev pub packet_for : Extent → Option OpenPacket → ℕ → OpenPacket
@@ -55,6 +59,9 @@ appended p i out =
     spliced (spliced out p.begins (word 1 (p.size + size i))) (p.begins + 4 + p.size) (item_bytes i ++ replicate (filling (p.size + size i)) 0)
 
 module _ (services : Services) where
+  abbrev pub takes_entry : OpenPacket → Entry → Bool
+  takes_entry p e = takes p (shares_in (services e.code)) e.code.data_type (size (item_of services e))
+
   abbrev pub joined_in : Extent → Entry → Option OpenPacket
   joined_in x e = joined_by x.last (shares_in (services e.code)) e.code.data_type (size (item_of services e))
 

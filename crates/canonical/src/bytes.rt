@@ -1,12 +1,11 @@
 // Heads, words and filling as bytes, and writing them into the output.
-ghost use Rattle.std.specs.Prelude.{◌≡◌, ◌+◌, ◌^◌, ◌<◌, ◌≤◌, length, replicate};
+ghost use Rattle.std.specs.Prelude.{◌≡◌, ◌+◌, ◌*◌, ◌^◌, ◌<◌, ◌≤◌, length, replicate};
 ghost use Rattle.copy_format.specs.Image.{entry_head, packet_head, counter_of, device_flags_of, word, filling};
 ghost use Rattle.canonical.specs.States.{spliced};
+ghost use Rattle.canonical.specs.Words.{kind_number};
 
 use records::code::MessageType;
-use tecmp::head::Stream;
-
-const VERSION: u8 = 3;
+use tecmp::head::{Stream, VERSION};
 
 // The device flags of a logged packet: a whole message, of a module that is in order.
 const DEVICE_FLAGS: u16 = 0x000F;
@@ -14,9 +13,22 @@ const DEVICE_FLAGS: u16 = 0x000F;
 const COUNTERS: u32 = 65_536;
 
 // The kinds of words in a copy, in their top four bits.
-pub(crate) const PACKET: u32 = 1 << 28;
+#[derive(Clone, Copy)]
+pub(crate) enum WordKind {
+    Packet = 1 << 28,
+    Closing = 2 << 28,
+}
 
-pub(crate) const CLOSING: u32 = 2 << 28;
+impl WordKind {
+    // A word of this kind, with a number below the kind's bits.
+    #[tactic(auto, unfolding(copy_format::specs::Image::word))]
+    pub(crate) fn word(self, number: u32) -> [u8; 4]
+        requires { number < 2 ^ 28 }
+        ensures { result ≡ word (kind_number self) number }
+    {
+        (self as u32 + number).to_be_bytes()
+    }
+}
 
 // The counter of a packet and its device flags: both are 0 in replay.
 fn counter_and_flags(message_type: MessageType, number: u32) -> (u16, u16)
@@ -29,6 +41,7 @@ fn counter_and_flags(message_type: MessageType, number: u32) -> (u16, u16)
     }
 }
 
+#[tactic(auto, unfolding(copy_format::specs::Image::packet_head))]
 pub(crate) fn packet_head(stream: Stream, number: u32, data_type: u16) -> [u8; 12]
     ensures { result ≡ packet_head stream number data_type }
 {
@@ -37,10 +50,11 @@ pub(crate) fn packet_head(stream: Stream, number: u32, data_type: u16) -> [u8; 1
     let [c0, c1] = counter.to_be_bytes();
     let [t0, t1] = data_type.to_be_bytes();
     let [f0, f1] = flags.to_be_bytes();
-    let message_type = stream.message_type.number();
+    let message_type = u8::from(stream.message_type);
     [m0, m1, c0, c1, VERSION, message_type, t0, t1, 0, 0, f0, f1]
 }
 
+#[tactic(auto, unfolding(copy_format::specs::Image::entry_head))]
 pub(crate) fn entry_head(interface: u32, time: u64, length: u16, flags: u16) -> [u8; 16]
     ensures { result ≡ entry_head interface time length flags }
 {
@@ -61,23 +75,6 @@ pub(crate) fn put(out: &mut [u8], at: usize, bytes: &[u8])
     out[at..at + bytes.len()].copy_from_slice(bytes);
 }
 
-// Writes a word: its kind, and a number below the kind's bits.
-pub(crate) fn put_packet_word(out: &mut [u8], at: usize, size: usize)
-    requires { (at + 4 ≤ length out.old) × (size ≤ 1500) }
-    ensures { out.new ≡ spliced out.old at (word 1 size) }
-{
-    let word = PACKET + size as u32;
-    put(out, at, &word.to_be_bytes());
-}
-
-pub(crate) fn put_closing_word(out: &mut [u8], at: usize, entries: u32)
-    requires { (at + 4 ≤ length out.old) × (entries < 2 ^ 28) }
-    ensures { out.new ≡ spliced out.old at (word 2 entries) }
-{
-    let word = CLOSING + entries;
-    put(out, at, &word.to_be_bytes());
-}
-
 // The zeros after so many bytes, up to a multiple of four.
 pub(crate) fn filling_of(size: usize) -> usize
     ensures { result ≡ filling size }
@@ -89,7 +86,5 @@ pub(crate) fn put_filling(out: &mut [u8], at: usize, size: usize)
     requires { at + filling size ≤ length out.old }
     ensures { out.new ≡ spliced out.old at (replicate (filling size) 0) }
 {
-    let zeros = [0; 3];
-    let count = filling_of(size);
-    put(out, at, &zeros[0..count]);
+    out[at..at + filling_of(size)].fill(0);
 }

@@ -3,6 +3,7 @@
 
 mod bytes;
 pub mod copy;
+mod entry;
 mod packet;
 pub mod state;
 mod writer;

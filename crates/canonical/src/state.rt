@@ -1,18 +1,21 @@
 // What a copy keeps of what it has written.
 ghost use Rattle.std.specs.Prelude.{◌≡◌, ◌+◌, ◌≤◌};
-ghost use Rattle.canonical.specs.Sound.{Counted, size_of};
-ghost use Rattle.canonical.specs.States.{frame, joined_by, packet_for, extended};
+ghost use Rattle.canonical.specs.Calls.{closed};
+ghost use Rattle.canonical.specs.States.{frame, takes_entry, packet_for, joined_in, after};
+ghost use Rattle.tecmp.specs.Views.{viewed};
 
 use crate::bytes::filling_of;
-use tecmp::head::Stream;
+use crate::entry::AcceptedEntry;
+use records::refusal::Refusal;
+use records::registry::Registry;
+use std::marker::Model;
+use tecmp::head::{PACKET_LIMIT, Stream};
+use tecmp::packet::FIRST_ENTRY;
 
-// The most bytes of a packet, and those of its head and its word.
-const PACKET_LIMIT: usize = 1500;
-
-const PACKET_HEAD: usize = 12;
-
+// The bytes of a packet's word.
 pub(crate) const WORD: usize = 4;
 
+// Places in the output, not slices of it: it is lent at each call.
 // The last packet, which entries may still join: where its word stands, its bytes so far, its data type.
 #[derive(Clone, Copy)]
 pub struct OpenPacket {
@@ -22,12 +25,26 @@ pub struct OpenPacket {
 }
 
 // How far a copy reaches: its bytes up to where the closing word will stand, its entries and packets.
-#[derive(Clone, Copy)]
+// No bound on the length stands here: looking over a packet may lead past the output.
+#[derive(Clone, Copy, Default)]
 pub struct Extent {
-    pub length: usize,
-    pub entries: u32,
-    pub packets: u32,
-    pub last: Option<OpenPacket>,
+    pub(crate) length: usize,
+    pub(crate) entries: u32,
+    pub(crate) packets: u32,
+    pub(crate) last: Option<OpenPacket>,
+}
+
+impl Model for Extent {
+    ghost use Rattle.canonical.specs.Extents.{Extent};
+    ghost use Rattle.canonical.specs.Sound.{Counted};
+
+    ghost Value = { Extent };
+
+    ghost view = { λ x. record { length = x.length; entries = x.entries; packets = x.packets; last = x.last } };
+
+    ghost invariant = { λ x. Counted (record { length = x.length; entries = x.entries; packets = x.packets; last = x.last }) };
+
+    ghost inverse = { λ x. record { length = x.length; entries = x.entries; packets = x.packets; last = x.last } };
 }
 
 #[derive(Clone, Copy)]
@@ -39,11 +56,43 @@ pub struct State {
 }
 
 // What closing answers: how many bytes, entries and packets the closed copy has.
-#[derive(Clone, Copy)]
+#[derive(Clone, Copy, PartialEq, Eq, Debug)]
 pub struct Closed {
     pub bytes: usize,
     pub entries: u32,
     pub packets: u32,
+}
+
+impl OpenPacket {
+    // Whether an entry joins it: the code is the same, shares, and the packet stays within the limit.
+    fn takes<R: Registry>(self, entry: &AcceptedEntry<'_, '_, R>) -> bool
+        ensures { result ≡ takes_entry (R.Registry.services entry.now.registry.now) self (viewed entry.now.view) }
+    {
+        self.size.saturating_add(entry.size()) <= PACKET_LIMIT
+            && self.data_type == entry.view.code.data_type
+            && entry.shares()
+    }
+}
+
+impl State {
+    // What closing answers, with an output of so many bytes.
+    pub(crate) fn closed(&self, lent: usize) -> Result<Closed, Refusal>
+        requires { self.now.extent.length ≤ 16777216 }
+        ensures { result ≡ closed self.now lent }
+    {
+        let extent = self.extent;
+        if lent != self.capacity {
+            return Err(Refusal::OutputLength);
+        }
+        if extent.entries == 0 {
+            return Err(Refusal::NoEntries);
+        }
+        Ok(Closed {
+            bytes: extent.length + WORD,
+            entries: extent.entries,
+            packets: extent.packets,
+        })
+    }
 }
 
 // A packet of so many bytes with its word and its filling.
@@ -55,58 +104,40 @@ fn frame_of(size: usize) -> usize
 }
 
 impl Extent {
-    // The last packet, if an entry of so many bytes joins it: the code is the same, shares, and the packet stays within the limit.
-    pub(crate) fn joined(self, shares: bool, data_type: u16, size: usize) -> Option<OpenPacket>
-        requires { (size_of self.last ≤ 1500) × (size ≤ 1488) }
-        ensures { result ≡ joined_by self.last shares data_type size }
+    // The last packet, if the entry joins it.
+    pub(crate) fn joined<R: Registry>(self, entry: &AcceptedEntry<'_, '_, R>) -> Option<OpenPacket>
+        ensures { result ≡ joined_in (R.Registry.services entry.now.registry.now) self (viewed entry.now.view) }
     {
-        match self.last {
-            Some(packet)
-                if packet.size + size <= PACKET_LIMIT && packet.data_type == data_type && shares =>
-                { Some(packet) }
-            _ => None,
-        }
+        let packet = self.last?;
+        packet.takes(entry).then_some(packet)
     }
 
     // The packet that an entry goes into: the one it joins, or a new one, of which only the head is there.
     pub(crate) fn packet_for(self, joined: Option<OpenPacket>, data_type: u16) -> OpenPacket
         ensures { result ≡ packet_for self joined data_type }
     {
-        match joined {
-            Some(packet) => packet,
-            None => OpenPacket {
-                begins: self.length,
-                size: PACKET_HEAD,
-                data_type,
-            },
-        }
+        joined.unwrap_or(OpenPacket {
+            begins: self.length,
+            size: FIRST_ENTRY,
+            data_type,
+        })
     }
 
-    // How far the copy reaches with an entry of so many bytes more.
-    pub(crate) fn extend(self, shares: bool, data_type: u16, size: usize) -> Extent
-        requires counted { (Counted self) × (self.length ≤ 33554432) }
-        requires sized { (17 ≤ size) × (size ≤ 1488) }
-        ensures is { result ≡ extended self (joined_by self.last shares data_type size) data_type size }
-        ensures counted { Counted result }
+    // How far the copy reaches with the entry more.
+    pub(crate) fn extend<R: Registry>(self, entry: &AcceptedEntry<'_, '_, R>) -> Extent
+        requires { self.length ≤ 33554432 }
+        ensures is { result ≡ after (R.Registry.services entry.now.registry.now) self (viewed entry.now.view) }
         ensures longer { self.length ≤ result.length }
-        ensures bound { result.length ≤ self.length + size + 19 }
+        ensures bound { result.length ≤ self.length + 1507 }
     {
-        let joined = self.joined(shares, data_type, size);
-        let packet = self.packet_for(joined, data_type);
-        let size = packet.size + size;
-        let packets = match joined {
-            Some(_) => self.packets,
-            None => self.packets + 1,
-        };
+        let joined = self.joined(entry);
+        let packet = self.packet_for(joined, entry.view.code.data_type);
+        let size = packet.size + entry.size();
         Extent {
             length: packet.begins + frame_of(size),
             entries: self.entries + 1,
-            packets,
-            last: Some(OpenPacket {
-                begins: packet.begins,
-                size,
-                data_type: packet.data_type,
-            }),
+            packets: self.packets + u32::from(joined.is_none()),
+            last: Some(OpenPacket { size, ..packet }),
         }
     }
 }

@@ -2,7 +2,6 @@
 use Rattle.std.specs.Prelude.{◌≡◌, ℕ, true, List, [], ◌∷◌, map, length, take, drop, is_ok, Some, None, Ok, Err, Option, Result, ◌≢◌}
 use Rattle.tecmp.specs.Entries.{Entries, entries}
 use Rattle.records.specs.Services.{Services}
-use Rattle.records.specs.declared.refusal.Refusal.{Refusal}
 use Rattle.comparison.specs.Statements.{Statement, stated}
 use Rattle.comparison.specs.declared.packets.Field.{Field}
 use Rattle.comparison.specs.declared.packets.Field.TheVariants.{Presence, Code, Interface, Time, Content}
@@ -43,11 +42,6 @@ listed services (Err refusal) = []
 
 abbrev pub statements : Services → List ℕ → List Statement
 statements services packet = listed services (entries services None packet)
-
--- a packet read to its end: its refusal, or that it has none
-abbrev pub Checked : Entries → Result (Unit {0}) Refusal → Type 0
-Checked es (Ok done) = is_ok es ≡ true
-Checked es (Err refusal) = es ≡ Err refusal
 
 -- what `compare_packets` answers: the first packet's refusal, the second's, or how their statements compare
 abbrev pub Compared : Services → List ℕ → List ℕ → Result Comparison RefusedPacket → Type 0

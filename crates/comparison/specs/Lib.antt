@@ -1,3 +1,4 @@
 pub mod Comparing
 pub mod Encodings
 pub mod Statements
+pub mod Words

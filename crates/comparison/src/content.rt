@@ -1,65 +1,52 @@
 // Whether two records of one code say the same, decided by their canonical encodings.
-ghost use Rattle.std.specs.Prelude.{◌≡◌, ◌≤◌, true, length, is_ok, Decides};
-ghost use Rattle.records.specs.Services.{sense_by, checked_by};
+ghost use Rattle.std.specs.Prelude.{◌≡◌, length, Decides};
+ghost use Rattle.records.specs.Verdicts.{Bytes};
+ghost use Rattle.tecmp.specs.Views.{viewed};
 ghost use Rattle.comparison.specs.Encodings.{Encodes};
+ghost use Rattle.comparison.specs.Statements.{Accepted, InRange, sense_in};
 
-use records::code::Code;
+use records::kind::DATA_LIMIT;
 use records::registry::Registry;
+use tecmp::entry::EntryView;
 
-// The longest data that a record kind accepts.
-const DATA_LIMIT: usize = 1472;
-
-// A canonical encoding: its flags, and how many bytes of a buffer hold its data.
-#[derive(Clone, Copy)]
-struct Encoding {
+#[derive(Clone, Copy, PartialEq, Eq)]
+struct Encoding<'b> {
     flags: u16,
-    length: usize,
+    data: &'b [u8],
 }
 
-// Writes the canonical data to the front of a buffer; none where the record is refused or the buffer is too short.
-fn encode<R: Registry>(
+// The canonical encoding of an entry's record, its data in a part of the buffer; none where the record is refused or
+// the buffer is too short.
+fn encode<'b, R: Registry>(
     registry: &R,
-    code: Code,
-    flags: u16,
-    data: &[u8],
-    buffer: &mut [u8],
-) -> Option<Encoding>
-    ensures { Encodes (R.Registry.services registry.now code) flags «data».now (length buffer.old) buffer.new result }
+    entry: EntryView,
+    buffer: &'b mut [u8],
+) -> Option<Encoding<'b>>
+    ensures encodes { Encodes (R.Registry.services registry.now) (viewed entry.entry) (length buffer.old) result }
+    ensures fits { InRange (viewed entry.entry) }
 {
-    let Ok(length) = registry.check(code, flags, data) else {
-        return None;
-    };
-    if length > buffer.len() {
-        return None;
-    }
-    match registry.write(code, flags, data, &mut buffer[0..length]) {
-        Ok(flags) => Some(Encoding { flags, length }),
-        Err(_) => None,
-    }
+    data_is_bytes(entry.data);
+    let length = registry.check(entry.code, entry.flags, entry.data).ok()?;
+    let part = buffer.get_mut(..length)?;
+    let flags = registry
+        .write(entry.code, entry.flags, entry.data, part)
+        .ok()?;
+    Some(Encoding { flags, data: part })
 }
+
+// What the type says of a slice; of a view's field a proof learns it only by a call that is lent the slice.
+fn data_is_bytes(data: &[u8])
+    ensures { Bytes «data».now }
+{}
 
 // Whether two accepted records of one code say the same.
-pub(crate) fn same_sense<R: Registry>(
-    registry: &R,
-    code: Code,
-    flags: u16,
-    data: &[u8],
-    other_flags: u16,
-    other_data: &[u8],
-) -> bool
-    requires accepted { is_ok (checked_by (R.Registry.services registry.now code) flags «data».now) ≡ true }
-    requires other_accepted { is_ok (checked_by (R.Registry.services registry.now code) other_flags other_data.now) ≡ true }
-    ensures { Decides result (sense_by (R.Registry.services registry.now code) flags «data».now ≡ sense_by (R.Registry.services registry.now code) other_flags other_data.now) }
+pub(crate) fn same_sense<R: Registry>(registry: &R, first: EntryView, second: EntryView) -> bool
+    requires one_code { first.code ≡ second.code }
+    requires first { Accepted (R.Registry.services registry.now) (viewed first) }
+    requires second { Accepted (R.Registry.services registry.now) (viewed second) }
+    ensures { Decides result (sense_in (R.Registry.services registry.now) (viewed first.entry) ≡ sense_in (R.Registry.services registry.now) (viewed second.entry)) }
 {
     let mut buffer = [0; DATA_LIMIT];
     let mut other_buffer = [0; DATA_LIMIT];
-    let Some(first) = encode(registry, code, flags, data, &mut buffer) else {
-        return false;
-    };
-    let Some(second) = encode(registry, code, other_flags, other_data, &mut other_buffer) else {
-        return false;
-    };
-    let length = first.length;
-    let other_length = second.length;
-    first.flags == second.flags && &buffer[0..length] == &other_buffer[0..other_length]
+    encode(registry, first, &mut buffer) == encode(registry, second, &mut other_buffer)
 }

@@ -1,29 +1,12 @@
 -- What the code of a frame comes to. Assumes nothing.
-use Rattle.std.proofs.Common.{◌≡◌, ℕ, ◌+◌, ◌-◌, Bool, true, false, List, [], ◌∷◌, ◌++◌, length, get_or, take, drop, Ok, Err, Result, sym, refl, ap, ◌∙◌, arith}
-use Rattle.std.proofs.lemmas.List.{take_rest, drop-drop}
+use Rattle.std.proofs.Common.{◌≡◌, ℕ, Bool, true, false, List, [], ◌∷◌, ◌++◌, length, Ok, Err, Result, sym, refl, ap, ◌∙◌}
 use Rattle.records.specs.Codecs.{encoded}
 use Rattle.records.specs.Tests.{tested, Passed}
 use Rattle.records.specs.Verdicts.{checked}
 use Rattle.records.specs.declared.refusal.RecordRefusal.{RecordRefusal}
-use Rattle.records.proofs.Tested.{fails, passed, tested_err, tested_passed}
-use Rattle.records.specs.BigEndian.{big}
-use Rattle.frames.specs.Frames.{Shape, Shapely, count, head_read, tail_read, framed_on, size_tests, frame_tests, tests_on, codec, verdict_on}
-use Rattle.frames.proofs.Law.{again_length}
-
--- header and trailer of a frame, as the code reads them
-pub head_is : (s : Shape) (g : ℕ) (d : List ℕ) (a x h : ℕ) → a ≡ s.head_length → false ≡ s.empty g
-    → x ≡ big (take (a - 0) d) → h ≡ s.head_as g x → h ≡ head_read s g d
-head_is s g d a x h ea some ex eh =
-    let z : a - 0 ≡ s.head_length = omega arith in
-    fails (s.empty g) h 0 _ (sym some) (eh ∙ ap (s.head_as g) (ex ∙ ap (λ n. big (take n d)) z))
-
-pub tail_is : (s : Shape) (g : ℕ) (d : List ℕ) (a n k x t : ℕ) → a ≡ s.head_length → n ≡ get_or d a 0 → k ≡ n → false ≡ s.empty g
-    → x ≡ big (take (length d - (a + 1 + k)) (drop (a + 1 + k) d)) → t ≡ s.tail_as g n x → t ≡ tail_read s g d
-tail_is s g d a n k x t ea en ek some ex et =
-    let c : n ≡ count s d = en ∙ ap (λ j. get_or d j 0) ea in
-    let rest : x ≡ big (drop (count s d) (drop (s.head_length + 1) d)) =
-    ex ∙ ap big (take_rest d (a + 1 + k)) ∙ ap big (sym (drop-drop k (a + 1) d)) ∙ ap (λ j. big (drop j (drop (a + 1) d))) (ek ∙ c) ∙ ap (λ j. big (drop (count s d) (drop (j + 1) d))) ea in
-    fails (s.empty g) t 0 _ (sym some) (et ∙ ap (s.tail_as g n) rest ∙ ap (λ j. s.tail_as g j (big (drop (count s d) (drop (s.head_length + 1) d)))) c)
+use Rattle.records.proofs.Tested.{passed, tested_err, tested_passed}
+use Rattle.frames.specs.Frames.{Shape, Shapely, count, framed_on, size_tests, frame_tests, tests_on, codec, verdict_on}
+use Rattle.frames.specs.Law.{again_length}
 
 tested-append : {A E : Type 0} (ts us : List (Bool × E)) (r : Result A E) → tested (ts ++ us) r ≡ tested ts (tested us r)
 tested-append [] us r = refl

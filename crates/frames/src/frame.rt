@@ -5,6 +5,7 @@ ghost use Rattle.frames.specs.Frames.{Shape, Shapely};
 
 use records::RecordRefusal;
 
+// Each method takes those of flags, payload length, header and trailer that it reads.
 pub trait Frame {
     ghost shape: { Self → Shape };
 

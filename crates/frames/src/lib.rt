@@ -3,8 +3,10 @@
 #![tactic(auto)]
 
 pub mod frame;
+pub mod kind;
 mod number;
 pub mod record;
 
 pub use frame::Frame;
+pub use kind::{FrameKind, Framed};
 pub use record::{check_frame, write_frame};

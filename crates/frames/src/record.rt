@@ -9,6 +9,8 @@ use crate::frame::Frame;
 use crate::number::{read_number, write_number};
 use records::{RecordRefusal, WriteRefusal};
 
+// Frame, flags and data stay three parameters, and `Sized` a clause over two of them: each is read by itself in every clause.
+
 // The lengths of the data: shorter than without payload, a payload length that is not allowed, any other wrong length.
 fn check_size<F: Frame>(frame: &F, flags: u16, data: &[u8]) -> Result<u8, RecordRefusal>
     ensures { result ≡ tested (size_tests (F.Frame.shape frame.now) flags «data».now) (Ok (count (F.Frame.shape frame.now) «data».now)) }
@@ -92,11 +94,11 @@ pub fn write_frame<F: Frame>(
     ensures answer { result ≡ written (verdict_of (codec (F.Frame.shape frame.now)) flags «data».now) (length part.old) }
     ensures part { Filled result (canonical_data (verdict_of (codec (F.Frame.shape frame.now)) flags «data».now)) part.old part.new }
 {
-    match check_frame(frame, flags, data) {
-        Err(refusal) => Err(WriteRefusal::Record(refusal)),
-        Ok(length) if length != part.len() => Err(WriteRefusal::PartLength),
-        Ok(_) => Ok(write_canonical(frame, flags, data, part)),
+    // In each family of kinds: a shared `write` would have to ask of the last call that the record is accepted, and public calls ask nothing.
+    if check_frame(frame, flags, data)? != part.len() {
+        return Err(WriteRefusal::PartLength);
     }
+    Ok(write_canonical(frame, flags, data, part))
 }
 
 // Writes the canonical data of an accepted record, and answers its canonical flags. This call cannot refuse.

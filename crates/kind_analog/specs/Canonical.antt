@@ -56,7 +56,7 @@ sound = record {
   back = λ f d lt b p.
       let vs = values (step (factor_field f)) d in
       let e = fields (unit_field f) (period_field f) (least_factor vs) (omega arith) (omega arith) (least_small vs) in
-      let r = values_back (step (least_factor vs)) vs (canonical_fitting (factor_field f) d b (omega arith)) (least_multiples vs) in
+      let r = values_back (step (least_factor vs)) vs (canonical_fitting (factor_field f) d b) (least_multiples vs) in
       cc;
   apart = apart;
 }

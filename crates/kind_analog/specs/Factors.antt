@@ -1,6 +1,7 @@
 -- The canonical factor: it serves every value, no lesser one does, and it makes no sample too large. Assumes nothing.
-use Rattle.std.specs.Prelude.{◌≡◌, ℕ, zero, suc, ◌+◌, ◌*◌, ◌%◌, ◌<◌, ◌≤◌, true, false, List, [], ◌∷◌, ℤ, unsigned_abs, refl}
-use Rattle.std.proofs.Common.{sym, subst, ⊎_elim, arith}
+use Rattle.std.specs.Prelude.{◌≡◌, ℕ, ◌+◌, ◌-◌, ◌*◌, ◌%◌, ◌<◌, ◌≤◌, true, false, List, [], ◌∷◌, ℤ, unsigned_abs, refl}
+use Rattle.std.proofs.Common.{sym, subst, ⊎_elim, arith, lit<}
+use Rattle.std.proofs.Math.Nat.{one-le-pow, pow-le-pow_right}
 use Rattle.std.specs.Int.Signed.{mag}
 use Rattle.std.specs.Int.{w16}
 use mir.ValLaws.{to_z-Fits}
@@ -9,10 +10,10 @@ use Rattle.records.specs.Verdicts.{Bytes}
 use Rattle.kind_analog.specs.Analog.{values, sample, all_multiples, step, least_factor, Fitting}
 use Rattle.kind_analog.specs.Scaled.{quot_fits, product_multiple}
 
-values_multiples : (m : ℕ) (d : List ℕ) → 0 < m → all_multiples m (values m d) ≡ true
-values_multiples m [] h = refl
-values_multiples m (x ∷ []) h = refl
-values_multiples m (x ∷ (y ∷ d)) h = and_from _ _ (eq-eqb _ _ (product_multiple (sample x y) m h)) (values_multiples m d h)
+values_multiples : (m : ℕ) (d : List ℕ) → all_multiples m (values m d) ≡ true
+values_multiples m [] = refl
+values_multiples m (x ∷ []) = refl
+values_multiples m (x ∷ (y ∷ d)) = and_from _ _ (eq-eqb _ _ (product_multiple (sample x y) m)) (values_multiples m d)
 
 multiples_one : (vs : List ℤ) → all_multiples 1 vs ≡ true
 multiples_one [] = refl
@@ -45,32 +46,15 @@ least_small vs =
     cond_both (all_multiples 10 vs) 2 3 P (λ e. omega arith) (λ _. omega arith)))
 
 -- and that step is no less than any that serves
-least_step : (f : ℕ) (vs : List ℤ) → f < 4 → all_multiples (step f) vs ≡ true → step f ≤ step (least_factor vs)
-least_step zero vs h e =
-    let P : ℕ → Type 0 = λ g. 1000 ≤ step g in
-    cond_both (all_multiples 1000 vs) 0 _ P (λ _. omega arith) (λ n. absurd (both_ways _ n e))
-least_step (suc zero) vs h e =
-    let P : ℕ → Type 0 = λ g. 100 ≤ step g in
-    cond_both (all_multiples 1000 vs) 0 _ P (λ _. omega arith) (λ _.
-    cond_both (all_multiples 100 vs) 1 _ P (λ _. omega arith) (λ n. absurd (both_ways _ n e)))
-least_step (suc (suc zero)) vs h e =
-    let P : ℕ → Type 0 = λ g. 10 ≤ step g in
-    cond_both (all_multiples 1000 vs) 0 _ P (λ _. omega arith) (λ _.
-    cond_both (all_multiples 100 vs) 1 _ P (λ _. omega arith) (λ _.
-    cond_both (all_multiples 10 vs) 2 3 P (λ _. omega arith) (λ n. absurd (both_ways _ n e))))
-least_step (suc (suc (suc zero))) vs h e =
-    let P : ℕ → Type 0 = λ g. 1 ≤ step g in
-    cond_both (all_multiples 1000 vs) 0 _ P (λ _. omega arith) (λ _.
-    cond_both (all_multiples 100 vs) 1 _ P (λ _. omega arith) (λ _.
-    cond_both (all_multiples 10 vs) 2 3 P (λ _. omega arith) (λ _. omega arith)))
-least_step (suc (suc (suc (suc f)))) vs h e = absurd (omega arith)
+least_step : (f : ℕ) (vs : List ℤ) → all_multiples (step f) vs ≡ true → step f ≤ step (least_factor vs)
+least_step f vs e =
+    ⊎_elim
+    (λ lesser. absurd (both_ways _ (least_only vs f lesser) e))
+    (λ no_lesser. pow-le-pow_right (lit< tt) (omega arith))
+    (cases_lt f (least_factor vs))
 
-pub step_pos : (f : ℕ) → f < 4 → 0 < step f
-step_pos zero h = omega arith
-step_pos (suc zero) h = omega arith
-step_pos (suc (suc zero)) h = omega arith
-step_pos (suc (suc (suc zero))) h = omega arith
-step_pos (suc (suc (suc (suc f)))) h = absurd (omega arith)
+step_pos : (f : ℕ) → 0 < step f
+step_pos f = omega (arith, one-le-pow (3 - f) 10 (lit< tt))
 
 sample_small : (x y : ℕ) → x < 256 → y < 256 → mag (sample x y) < 32768
 sample_small x y h k = (to_z-Fits w16 (x * 256 + y) (record { fits = omega arith })).sfits
@@ -81,7 +65,7 @@ fitting m M (x ∷ []) b h k = tt
 fitting m M (x ∷ (y ∷ d)) b h k = (quot_fits (sample x y) m M (sample_small x y b.0 b.1.0) h k, fitting m M d b.1.1 h k)
 
 -- the canonical samples are samples
-pub canonical_fitting : (f : ℕ) (d : List ℕ) → Bytes d → f < 4 → Fitting (step (least_factor (values (step f) d))) (values (step f) d)
-canonical_fitting f d b h =
+pub canonical_fitting : (f : ℕ) (d : List ℕ) → Bytes d → Fitting (step (least_factor (values (step f) d))) (values (step f) d)
+canonical_fitting f d b =
     let vs = values (step f) d in
-    fitting (step f) (step (least_factor vs)) d b (least_step f vs h (values_multiples (step f) d (step_pos f h))) (step_pos (least_factor vs) (least_small vs))
+    fitting (step f) (step (least_factor vs)) d b (least_step f vs (values_multiples (step f) d)) (step_pos (least_factor vs))

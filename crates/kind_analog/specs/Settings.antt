@@ -1,5 +1,9 @@
 -- The numbers of the units, sample periods and factors.
-use Rattle.std.specs.Prelude.{ℕ, cond, Some, None, Option, ◌==◌}
+use Rattle.std.specs.Prelude.{ℕ, List, ◌∷◌, codes, cond, Some, None, Option, Result, ◌==◌}
+use Rattle.std.specs.Option.{ok_or}
+use Rattle.records.specs.declared.refusal.RecordRefusal.{RecordRefusal}
+use Rattle.records.specs.declared.refusal.RecordRefusal.TheVariants.{Setting}
+use Rattle.kind_analog.specs.Analog.{step}
 use Rattle.kind_analog.specs.declared.setting.Unit.{Unit as UnitName}
 use Rattle.kind_analog.specs.declared.setting.Unit.TheVariants.{Volt, Ampere, Watt, AmpereHour, Celsius}
 use Rattle.kind_analog.specs.declared.setting.SamplePeriod.{SamplePeriod}
@@ -18,6 +22,18 @@ abbrev pub unit_of : ℕ → Option UnitName
 unit_of n =
     cond (n == 0) (Some Volt) (cond (n == 1) (Some Ampere) (cond (n == 2) (Some Watt)
     (cond (n == 3) (Some AmpereHour) (cond (n == 4) (Some Celsius) None))))
+
+-- the same, or the refusal of any other number
+abbrev pub unit_read : ℕ → Result UnitName RecordRefusal
+unit_read n = ok_or (unit_of n) Setting
+
+-- what is printed of it, in UTF-8
+abbrev pub unit_symbol : UnitName → List ℕ
+unit_symbol Volt = codes "V"
+unit_symbol Ampere = codes "A"
+unit_symbol Watt = codes "W"
+unit_symbol AmpereHour = codes "Ah"
+unit_symbol Celsius = 0xC2 ∷ (0xB0 ∷ codes "C")
 
 abbrev pub period_number : SamplePeriod → ℕ
 period_number Ms2500 = 1
@@ -39,6 +55,9 @@ period_of n =
     (cond (n == 7) (Some Ms25) (cond (n == 8) (Some Ms10) (cond (n == 9) (Some Ms5)
     (cond (n == 10) (Some Us2500) (cond (n == 11) (Some Ms1) None))))))))))
 
+abbrev pub period_read : ℕ → Result SamplePeriod RecordRefusal
+period_read n = ok_or (period_of n) Setting
+
 abbrev pub period_microseconds : SamplePeriod → ℕ
 period_microseconds Ms2500 = 2500000
 period_microseconds Ms1000 = 1000000
@@ -57,3 +76,7 @@ factor_number Tenth = 0
 factor_number Hundredth = 1
 factor_number Thousandth = 2
 factor_number TenThousandth = 3
+
+-- the ten-thousandths of the unit that a sample is counted in
+abbrev pub step_of : Factor → ℕ
+step_of factor = step (factor_number factor)

@@ -7,7 +7,6 @@ ghost use Rattle.records.proofs.Codecs;
 ghost use Rattle.kind_analog.specs.Canonical.{sound};
 
 use crate::record::{check_analog, write_analog};
-use records::kind::Listing;
 use records::{MessageType, RecordKind, RecordRefusal, WriteRefusal};
 
 #[derive(Clone, Copy)]
@@ -20,17 +19,15 @@ impl RecordKind for Analog {
 
     const SHARES: bool = true;
 
-    ghost code = { λ _. analog_code };
+    ghost MESSAGE_TYPE = { analog_code.message_type };
 
-    ghost shares = { λ _. true };
+    ghost DATA_TYPE = { analog_code.data_type };
+
+    ghost SHARES = { true };
 
     ghost verdict = { λ _. verdict_of codec };
 
     ghost lawful = { λ k. Codecs.lawful codec sound };
-
-    fn listing(&self) -> Listing {
-        Listing::new(Self::MESSAGE_TYPE, Self::DATA_TYPE, Self::SHARES)
-    }
 
     fn check(&self, flags: u16, data: &[u8]) -> Result<usize, RecordRefusal> {
         check_analog(flags, data)

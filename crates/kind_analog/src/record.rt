@@ -1,11 +1,11 @@
 // Checking and writing analog records.
 ghost use Rattle.std.specs.Prelude.{◌≡◌, length, Ok};
 ghost use Rattle.records.specs.Codecs.{verdict_of};
-ghost use Rattle.records.specs.Verdicts.{checked, written, canonical_data, Filled};
+ghost use Rattle.records.specs.Verdicts.{checked, written, canonical_flags, canonical_data, Filled};
 ghost use Rattle.kind_analog.specs.Analog.{codec};
 
 use crate::reading::read_analog;
-use crate::samples::{canonical_factor, write_samples};
+use crate::samples::Samples;
 use crate::setting::{Factor, with_factor};
 use records::{RecordRefusal, WriteRefusal};
 
@@ -22,21 +22,24 @@ pub(crate) fn write_analog(flags: u16, data: &[u8], part: &mut [u8]) -> Result<u
     ensures answer { result ≡ written (verdict_of codec flags «data».now) (length part.old) }
     ensures part { Filled result (canonical_data (verdict_of codec flags «data».now)) part.old part.new }
 {
-    match check_analog(flags, data) {
-        Err(refusal) => Err(WriteRefusal::Record(refusal)),
-        Ok(length) if length != part.len() => Err(WriteRefusal::PartLength),
-        Ok(_) => Ok(write_canonical(flags, data, part)),
+    // In each family of kinds: a shared `write` would have to ask of the last call that the record is accepted, and public calls ask nothing.
+    if check_analog(flags, data)? != part.len() {
+        return Err(WriteRefusal::PartLength);
     }
+    Ok(write_canonical(flags, data, part))
 }
 
 // Writes the canonical data of an accepted record, and answers its canonical flags. This call cannot refuse.
 fn write_canonical(flags: u16, data: &[u8], part: &mut [u8]) -> u16
     requires { checked (verdict_of codec flags «data».now) ≡ Ok (length part.old) }
-    ensures answer { Ok result ≡ written (verdict_of codec flags «data».now) (length part.old) }
+    ensures answer { result ≡ canonical_flags (verdict_of codec flags «data».now) }
     ensures part { part.new ≡ canonical_data (verdict_of codec flags «data».now) }
 {
-    let step = Factor::of_flags(flags).step();
-    let factor = canonical_factor(data, step);
-    write_samples(data, step, factor.step(), part);
+    let samples = Samples {
+        bytes: data,
+        factor: Factor::of_flags(flags),
+    };
+    let factor = samples.canonical_factor();
+    samples.write(factor, part);
     with_factor(flags, factor)
 }

@@ -1,10 +1,13 @@
 // What the flags of an analog record set: unit, sample period and factor.
-ghost use Rattle.std.specs.Prelude.{◌≡◌, ◌+◌, ◌*◌, ◌<◌, ◌≤◌};
-ghost use Rattle.kind_analog.specs.Settings.{unit_number, unit_of, period_number, period_of, period_microseconds, factor_number};
-ghost use Rattle.kind_analog.specs.Analog.{unit_field, factor_field, period_field, step};
+ghost use Rattle.std.specs.Prelude.{◌≡◌, Some, ◌+◌, ◌*◌, ◌<◌, ◌≤◌};
+ghost use Rattle.kind_analog.specs.Settings.{unit_number, unit_read, unit_symbol, period_number, period_read, period_microseconds, factor_number, step_of};
+ghost use Rattle.kind_analog.specs.Analog.{unit_field, factor_field, period_field};
 
+use records::RecordRefusal;
 use records::bits::field;
+use std::fmt;
 
+// Two fields by their names, each one call of the generic `field`.
 pub(crate) fn unit_field(flags: u16) -> u16
     ensures { result ≡ unit_field flags }
 {
@@ -26,11 +29,11 @@ pub enum Unit {
     Celsius,
 }
 
-impl Unit {
-    pub fn number(self) -> u16
-        ensures { result ≡ unit_number self }
-    {
-        match self {
+impl From<Unit> for u16 {
+    ghost from_gives = { λ unit number. number ≡ unit_number unit };
+
+    fn from(unit: Unit) -> u16 {
+        match unit {
             Unit::Volt => 0,
             Unit::Ampere => 1,
             Unit::Watt => 2,
@@ -38,18 +41,38 @@ impl Unit {
             Unit::Celsius => 4,
         }
     }
+}
 
-    pub fn from_number(number: u16) -> Option<Unit>
-        ensures { result ≡ unit_of number }
-    {
+// Any other number is refused, as in a record.
+impl TryFrom<u16> for Unit {
+    type Error = RecordRefusal;
+
+    ghost try_from_gives = { λ number answer. answer ≡ unit_read number };
+
+    fn try_from(number: u16) -> Result<Unit, RecordRefusal> {
         match number {
-            0 => Some(Unit::Volt),
-            1 => Some(Unit::Ampere),
-            2 => Some(Unit::Watt),
-            3 => Some(Unit::AmpereHour),
-            4 => Some(Unit::Celsius),
-            _ => None,
+            0 => Ok(Unit::Volt),
+            1 => Ok(Unit::Ampere),
+            2 => Ok(Unit::Watt),
+            3 => Ok(Unit::AmpereHour),
+            4 => Ok(Unit::Celsius),
+            _ => Err(RecordRefusal::Setting),
         }
+    }
+}
+
+// The symbol, as on the bench.
+impl fmt::Display for Unit {
+    ghost output = { λ unit. Some (unit_symbol unit) };
+
+    fn fmt<W: fmt::Write>(&self, f: &mut fmt::Formatter<W>) -> fmt::Result {
+        f.write_str(match self {
+            Unit::Volt => "V",
+            Unit::Ampere => "A",
+            Unit::Watt => "W",
+            Unit::AmpereHour => "Ah",
+            Unit::Celsius => "°C",
+        })
     }
 }
 
@@ -69,11 +92,11 @@ pub enum SamplePeriod {
     Ms1,
 }
 
-impl SamplePeriod {
-    pub fn number(self) -> u16
-        ensures { result ≡ period_number self }
-    {
-        match self {
+impl From<SamplePeriod> for u16 {
+    ghost from_gives = { λ period number. number ≡ period_number period };
+
+    fn from(period: SamplePeriod) -> u16 {
+        match period {
             SamplePeriod::Ms2500 => 1,
             SamplePeriod::Ms1000 => 2,
             SamplePeriod::Ms500 => 3,
@@ -87,26 +110,33 @@ impl SamplePeriod {
             SamplePeriod::Ms1 => 11,
         }
     }
+}
 
-    pub fn from_number(number: u16) -> Option<SamplePeriod>
-        ensures { result ≡ period_of number }
-    {
+// Any other number is refused, as in a record.
+impl TryFrom<u16> for SamplePeriod {
+    type Error = RecordRefusal;
+
+    ghost try_from_gives = { λ number answer. answer ≡ period_read number };
+
+    fn try_from(number: u16) -> Result<SamplePeriod, RecordRefusal> {
         match number {
-            1 => Some(SamplePeriod::Ms2500),
-            2 => Some(SamplePeriod::Ms1000),
-            3 => Some(SamplePeriod::Ms500),
-            4 => Some(SamplePeriod::Ms250),
-            5 => Some(SamplePeriod::Ms100),
-            6 => Some(SamplePeriod::Ms50),
-            7 => Some(SamplePeriod::Ms25),
-            8 => Some(SamplePeriod::Ms10),
-            9 => Some(SamplePeriod::Ms5),
-            10 => Some(SamplePeriod::Us2500),
-            11 => Some(SamplePeriod::Ms1),
-            _ => None,
+            1 => Ok(SamplePeriod::Ms2500),
+            2 => Ok(SamplePeriod::Ms1000),
+            3 => Ok(SamplePeriod::Ms500),
+            4 => Ok(SamplePeriod::Ms250),
+            5 => Ok(SamplePeriod::Ms100),
+            6 => Ok(SamplePeriod::Ms50),
+            7 => Ok(SamplePeriod::Ms25),
+            8 => Ok(SamplePeriod::Ms10),
+            9 => Ok(SamplePeriod::Ms5),
+            10 => Ok(SamplePeriod::Us2500),
+            11 => Ok(SamplePeriod::Ms1),
+            _ => Err(RecordRefusal::Setting),
         }
     }
+}
 
+impl SamplePeriod {
     pub fn microseconds(self) -> u32
         ensures { result ≡ period_microseconds self }
     {
@@ -127,7 +157,7 @@ impl SamplePeriod {
 }
 
 // What one sample unit stands for, as a part of the record's unit.
-#[derive(Clone, Copy, PartialEq, Eq, Debug)]
+#[derive(Clone, Copy)]
 pub(crate) enum Factor {
     Tenth,
     Hundredth,
@@ -135,7 +165,21 @@ pub(crate) enum Factor {
     TenThousandth,
 }
 
+impl From<Factor> for u16 {
+    ghost from_gives = { λ factor number. (number ≡ factor_number factor) × (number < 4) };
+
+    fn from(factor: Factor) -> u16 {
+        match factor {
+            Factor::Tenth => 0,
+            Factor::Hundredth => 1,
+            Factor::Thousandth => 2,
+            Factor::TenThousandth => 3,
+        }
+    }
+}
+
 impl Factor {
+    // No `From`: of all flags it reads one field.
     pub(crate) fn of_flags(flags: u16) -> Factor
         ensures { factor_number result ≡ factor_field flags }
     {
@@ -147,21 +191,9 @@ impl Factor {
         }
     }
 
-    pub(crate) fn number(self) -> u16
-        ensures number { result ≡ factor_number self }
-        ensures bound { result < 4 }
-    {
-        match self {
-            Factor::Tenth => 0,
-            Factor::Hundredth => 1,
-            Factor::Thousandth => 2,
-            Factor::TenThousandth => 3,
-        }
-    }
-
-    // The same in ten-thousandths.
+    // The ten-thousandths of the unit that a sample is counted in.
     pub(crate) fn step(self) -> u16
-        ensures step { result ≡ step (factor_number self) }
+        ensures step { result ≡ step_of self }
         ensures positive { 0 < result }
         ensures bound { result ≤ 1000 }
     {
@@ -178,5 +210,5 @@ impl Factor {
 pub(crate) fn with_factor(flags: u16, factor: Factor) -> u16
     ensures { result ≡ period_field flags * 2048 + factor_number factor * 128 + unit_field flags * 4 }
 {
-    period_field(flags) * 2048 + factor.number() * 128 + unit_field(flags) * 4
+    period_field(flags) * 2048 + u16::from(factor) * 128 + unit_field(flags) * 4
 }

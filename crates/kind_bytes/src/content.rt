@@ -5,11 +5,12 @@ ghost use Rattle.kind_bytes.specs.Layouts.{layout_of, symbol_width};
 use records::bits::field;
 
 #[derive(Clone, Copy)]
-pub(crate) enum Content {
+pub enum Content {
     Uart,
     Ethernet,
 }
 
+// The matches give values by content, not steps, and read as a table.
 impl Content {
     // The flags that are kept.
     pub(crate) fn mask(self) -> u16
@@ -50,6 +51,7 @@ pub(crate) enum SymbolWidth {
 }
 
 impl SymbolWidth {
+    // No `TryFrom`: of all flags it reads one field.
     fn of_flags(flags: u16) -> Option<SymbolWidth>
         ensures { result ≡ symbol_width flags }
     {

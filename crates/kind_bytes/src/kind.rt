@@ -1,72 +1,81 @@
-// The record kinds of logged UART and Ethernet records.
-ghost use Rattle.std.specs.Prelude.{true};
+// The record kinds of plain bytes: logged UART and Ethernet records.
+ghost use Rattle.std.specs.Prelude.{◌≡◌, ℕ, true};
 ghost use Rattle.records.specs.Codecs.{verdict_of};
-ghost use Rattle.kind_bytes.specs.Layouts.{codec, uart, ethernet, uart_code, ethernet_code};
-ghost use Rattle.kind_bytes.specs.Law.{uart_lawful, ethernet_lawful};
+ghost use Rattle.records.specs.declared.code.MessageType.TheVariants.{LoggingStream};
+ghost use Rattle.kind_bytes.specs.declared.content.Content.{Content as ContentOf};
+ghost use Rattle.kind_bytes.specs.declared.content.Content.TheVariants.{Uart, Ethernet};
+ghost use Rattle.kind_bytes.specs.Layouts.{codec, layout_of, uart_code, ethernet_code};
+ghost use Rattle.kind_bytes.specs.Law.{bytes_lawful};
 
 use crate::content::Content;
 use crate::record::{check_bytes, write_bytes};
-use records::kind::Listing;
 use records::{MessageType, RecordKind, RecordRefusal, WriteRefusal};
+
+// What a kind of plain bytes states of itself: its data type and its content. All are logged, and share packets.
+pub trait BytesKind {
+    const DATA_TYPE: u16;
+
+    const CONTENT: Content;
+
+    ghost DATA_TYPE: { ℕ };
+
+    ghost CONTENT: { ContentOf };
+}
+
+// The record kind of such bytes.
+#[derive(Clone, Copy)]
+pub struct PlainBytes<K> {
+    pub kind: K,
+}
+
+impl<K: BytesKind> RecordKind for PlainBytes<K> {
+    const MESSAGE_TYPE: MessageType = MessageType::LoggingStream;
+
+    const DATA_TYPE: u16 = K::DATA_TYPE;
+
+    const SHARES: bool = true;
+
+    ghost MESSAGE_TYPE = { LoggingStream };
+
+    ghost DATA_TYPE = { K.BytesKind.DATA_TYPE };
+
+    ghost SHARES = { true };
+
+    ghost verdict = { λ _. verdict_of (codec (layout_of K.BytesKind.CONTENT)) };
+
+    ghost lawful = { λ k. bytes_lawful K.BytesKind.CONTENT };
+
+    fn check(&self, flags: u16, data: &[u8]) -> Result<usize, RecordRefusal> {
+        check_bytes(K::CONTENT, flags, data)
+    }
+
+    fn write(&self, flags: u16, data: &[u8], part: &mut [u8]) -> Result<u16, WriteRefusal> {
+        write_bytes(K::CONTENT, flags, data, part)
+    }
+}
 
 #[derive(Clone, Copy)]
 pub struct LoggedUart;
 
-impl RecordKind for LoggedUart {
-    const MESSAGE_TYPE: MessageType = MessageType::LoggingStream;
-
+impl BytesKind for LoggedUart {
     const DATA_TYPE: u16 = 0x0010;
 
-    const SHARES: bool = true;
+    const CONTENT: Content = Content::Uart;
 
-    ghost code = { λ _. uart_code };
+    ghost DATA_TYPE = { uart_code.data_type };
 
-    ghost shares = { λ _. true };
-
-    ghost verdict = { λ _. verdict_of (codec uart) };
-
-    ghost lawful = { λ k. uart_lawful };
-
-    fn listing(&self) -> Listing {
-        Listing::new(Self::MESSAGE_TYPE, Self::DATA_TYPE, Self::SHARES)
-    }
-
-    fn check(&self, flags: u16, data: &[u8]) -> Result<usize, RecordRefusal> {
-        check_bytes(Content::Uart, flags, data)
-    }
-
-    fn write(&self, flags: u16, data: &[u8], part: &mut [u8]) -> Result<u16, WriteRefusal> {
-        write_bytes(Content::Uart, flags, data, part)
-    }
+    ghost CONTENT = { Uart };
 }
 
 #[derive(Clone, Copy)]
 pub struct LoggedEthernet;
 
-impl RecordKind for LoggedEthernet {
-    const MESSAGE_TYPE: MessageType = MessageType::LoggingStream;
-
+impl BytesKind for LoggedEthernet {
     const DATA_TYPE: u16 = 0x0080;
 
-    const SHARES: bool = true;
+    const CONTENT: Content = Content::Ethernet;
 
-    ghost code = { λ _. ethernet_code };
+    ghost DATA_TYPE = { ethernet_code.data_type };
 
-    ghost shares = { λ _. true };
-
-    ghost verdict = { λ _. verdict_of (codec ethernet) };
-
-    ghost lawful = { λ k. ethernet_lawful };
-
-    fn listing(&self) -> Listing {
-        Listing::new(Self::MESSAGE_TYPE, Self::DATA_TYPE, Self::SHARES)
-    }
-
-    fn check(&self, flags: u16, data: &[u8]) -> Result<usize, RecordRefusal> {
-        check_bytes(Content::Ethernet, flags, data)
-    }
-
-    fn write(&self, flags: u16, data: &[u8], part: &mut [u8]) -> Result<u16, WriteRefusal> {
-        write_bytes(Content::Ethernet, flags, data, part)
-    }
+    ghost CONTENT = { Ethernet };
 }

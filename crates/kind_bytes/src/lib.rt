@@ -5,4 +5,4 @@ mod content;
 pub mod kind;
 mod record;
 
-pub use kind::{LoggedEthernet, LoggedUart};
+pub use kind::{BytesKind, LoggedEthernet, LoggedUart, PlainBytes};

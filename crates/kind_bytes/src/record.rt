@@ -14,10 +14,10 @@ pub(crate) fn check_bytes(content: Content, flags: u16, data: &[u8]) -> Result<u
     if !content.allows(data.len()) {
         return Err(RecordRefusal::Length);
     }
-    match content.width(flags & content.mask()) {
-        Some(_) => Ok(data.len()),
-        None => Err(RecordRefusal::Setting),
-    }
+    content
+        .width(flags & content.mask())
+        .map(|_| data.len())
+        .ok_or(RecordRefusal::Setting)
 }
 
 // Writes the canonical data into a part of just its length; the canonical flags, or the refusal.
@@ -30,11 +30,11 @@ pub(crate) fn write_bytes(
     ensures answer { result ≡ written (verdict_of (codec (layout_of content)) flags «data».now) (length part.old) }
     ensures part { Filled result (canonical_data (verdict_of (codec (layout_of content)) flags «data».now)) part.old part.new }
 {
-    match check_bytes(content, flags, data) {
-        Err(refusal) => Err(WriteRefusal::Record(refusal)),
-        Ok(length) if length != part.len() => Err(WriteRefusal::PartLength),
-        Ok(_) => Ok(write_canonical(content, flags, data, part)),
+    // In each family of kinds: a shared `write` would have to ask of the last call that the record is accepted, and public calls ask nothing.
+    if check_bytes(content, flags, data)? != part.len() {
+        return Err(WriteRefusal::PartLength);
     }
+    Ok(write_canonical(content, flags, data, part))
 }
 
 // Writes the canonical data of an accepted record, and answers its canonical flags. This call cannot refuse.
@@ -44,6 +44,7 @@ fn write_canonical(content: Content, flags: u16, data: &[u8], part: &mut [u8]) -
     ensures part { part.new ≡ canonical_data (verdict_of (codec (layout_of content)) flags «data».now) }
 {
     let flags = flags & content.mask();
+    // two steps, which a closure would not make plainer
     match content.width(flags) {
         Some(SymbolWidth::Seven) => write_seven(data, part),
         Some(SymbolWidth::Eight) | None => part.copy_from_slice(data),
@@ -56,6 +57,7 @@ fn write_seven(data: &[u8], part: &mut [u8])
     requires { length part.old ≡ length «data».now }
     ensures { part.new ≡ map low7 «data».now }
 {
+    // An index, as a rule of the project: each symbol is folded at its place.
     for i in 0..part.len() {
         part[i] = data[i] & 0x7F;
     }

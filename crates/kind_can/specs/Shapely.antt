@@ -1,4 +1,4 @@
--- CAN frames are shapely, so their kinds are lawful. Assumes nothing.
+-- CAN frames are shapely. Assumes nothing.
 use Rattle.std.specs.Prelude.{◌≡◌, ℕ, ◌^◌, ◌<◌, ◌≤◌, Bool, true, false, cond, refl}
 use Rattle.std.proofs.Math.Nat.{mod-mod, mod-le}
 use Rattle.std.proofs.Common.{arith}
@@ -6,11 +6,8 @@ use Rattle.std.proofs.lemmas.Nat.{and_le_r}
 use Rattle.std.proofs.lemmas.Bool.Decides.{nat_tests}
 use Rattle.records.specs.declared.code.MessageType.{MessageType}
 use Rattle.records.specs.declared.code.MessageType.TheVariants.{LoggingStream, ReplayData}
-use Rattle.records.specs.Codecs.{verdict_of}
-use Rattle.records.specs.Verdicts.{Lawful}
-use Rattle.records.proofs.Masks.{kept_again}
-use Rattle.frames.specs.Frames.{Shapely, codec}
-use Rattle.frames.proofs.Law.{frame_lawful}
+use Rattle.records.proofs.Masks.{kept_again, used_again}
+use Rattle.frames.specs.Frames.{Shapely}
 use Rattle.records.specs.Flags.{flag}
 use Rattle.kind_can.specs.declared.frame.Protocol.{Protocol}
 use Rattle.kind_can.specs.declared.frame.Protocol.TheVariants.{Classic, Fd}
@@ -30,10 +27,6 @@ few Fd g n e = grind (arith, nat_tests)
 crc_short : (p : Protocol) → crc_length p ≤ 8
 crc_short Classic = omega arith
 crc_short Fd = omega arith
-
-used_again : (b : Bool) (x : ℕ) → cond b (cond b x 0) 0 ≡ cond b x 0
-used_again true x = refl
-used_again false x = refl
 
 crc_again : (p : Protocol) (d : MessageType) (g n x : ℕ) → crc_read p d g n (crc_read p d g n x) ≡ crc_read p d g n x
 crc_again p LoggingStream g n x = mod-mod x (2 ^ crc_bits p n)
@@ -61,6 +54,3 @@ can_shapely k = record {
   head_apart = λ x y e. cc;
   tail_apart = λ x y e. cc;
 }
-
-pub can_lawful : (k : CanFrame) → Lawful (verdict_of (codec (can_shape k)))
-can_lawful k = frame_lawful (can_shape k) (can_shapely k)

@@ -18,7 +18,7 @@ const ERROR_FRAME: u32 = 3;
 const CRC_USED: u32 = 13;
 
 #[derive(Clone, Copy)]
-pub(crate) enum Protocol {
+pub enum Protocol {
     Classic,
     Fd,
 }
@@ -39,7 +39,7 @@ impl Protocol {
 
 // The frames of one kind.
 #[derive(Clone, Copy)]
-pub(crate) struct CanFrame {
+pub struct CanFrame {
     pub(crate) protocol: Protocol,
     pub(crate) direction: MessageType,
 }
@@ -61,6 +61,7 @@ fn id_agrees(direction: MessageType, flags: u16, id: u64) -> bool
     }
 }
 
+// The matches give values by kind, not steps, and read as the table of the kinds.
 impl Frame for CanFrame {
     ghost shape = { can_shape };
 

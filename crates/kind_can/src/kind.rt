@@ -1,14 +1,10 @@
 // The record kinds of CAN and CAN-FD frames, logged and replay.
 ghost use Rattle.std.specs.Prelude.{true, false};
-ghost use Rattle.records.specs.Codecs.{verdict_of};
-ghost use Rattle.frames.specs.Frames.{codec};
-ghost use Rattle.kind_can.specs.Can.{code_of, can_shape, logged_can, replay_can, logged_can_fd, replay_can_fd};
-ghost use Rattle.kind_can.specs.Shapely.{can_lawful};
+ghost use Rattle.kind_can.specs.Can.{code_of, logged_can, replay_can, logged_can_fd, replay_can_fd};
 
 use crate::frame::{CanFrame, Protocol};
-use frames::{check_frame, write_frame};
-use records::kind::Listing;
-use records::{MessageType, RecordKind, RecordRefusal, WriteRefusal};
+use frames::FrameKind;
+use records::MessageType;
 
 // The data types.
 const CAN: u16 = 0x0002;
@@ -38,123 +34,91 @@ const REPLAY_CAN_FD: CanFrame = CanFrame {
 #[derive(Clone, Copy)]
 pub struct LoggedCan;
 
-impl RecordKind for LoggedCan {
+impl FrameKind for LoggedCan {
+    type Frame = CanFrame;
+
     const MESSAGE_TYPE: MessageType = MessageType::LoggingStream;
 
     const DATA_TYPE: u16 = CAN;
 
     const SHARES: bool = true;
 
-    ghost code = { λ _. code_of logged_can };
+    const FRAME: CanFrame = LOGGED_CAN;
 
-    ghost shares = { λ _. true };
+    ghost MESSAGE_TYPE = { (code_of logged_can).message_type };
 
-    ghost verdict = { λ _. verdict_of (codec (can_shape logged_can)) };
+    ghost DATA_TYPE = { (code_of logged_can).data_type };
 
-    ghost lawful = { λ k. can_lawful logged_can };
+    ghost SHARES = { true };
 
-    fn listing(&self) -> Listing {
-        Listing::new(Self::MESSAGE_TYPE, Self::DATA_TYPE, Self::SHARES)
-    }
-
-    fn check(&self, flags: u16, data: &[u8]) -> Result<usize, RecordRefusal> {
-        check_frame(&LOGGED_CAN, flags, data)
-    }
-
-    fn write(&self, flags: u16, data: &[u8], part: &mut [u8]) -> Result<u16, WriteRefusal> {
-        write_frame(&LOGGED_CAN, flags, data, part)
-    }
+    ghost FRAME = { logged_can };
 }
 
 #[derive(Clone, Copy)]
 pub struct ReplayCan;
 
-impl RecordKind for ReplayCan {
+impl FrameKind for ReplayCan {
+    type Frame = CanFrame;
+
     const MESSAGE_TYPE: MessageType = MessageType::ReplayData;
 
     const DATA_TYPE: u16 = CAN;
 
     const SHARES: bool = false;
 
-    ghost code = { λ _. code_of replay_can };
+    const FRAME: CanFrame = REPLAY_CAN;
 
-    ghost shares = { λ _. false };
+    ghost MESSAGE_TYPE = { (code_of replay_can).message_type };
 
-    ghost verdict = { λ _. verdict_of (codec (can_shape replay_can)) };
+    ghost DATA_TYPE = { (code_of replay_can).data_type };
 
-    ghost lawful = { λ k. can_lawful replay_can };
+    ghost SHARES = { false };
 
-    fn listing(&self) -> Listing {
-        Listing::new(Self::MESSAGE_TYPE, Self::DATA_TYPE, Self::SHARES)
-    }
-
-    fn check(&self, flags: u16, data: &[u8]) -> Result<usize, RecordRefusal> {
-        check_frame(&REPLAY_CAN, flags, data)
-    }
-
-    fn write(&self, flags: u16, data: &[u8], part: &mut [u8]) -> Result<u16, WriteRefusal> {
-        write_frame(&REPLAY_CAN, flags, data, part)
-    }
+    ghost FRAME = { replay_can };
 }
 
 #[derive(Clone, Copy)]
 pub struct LoggedCanFd;
 
-impl RecordKind for LoggedCanFd {
+impl FrameKind for LoggedCanFd {
+    type Frame = CanFrame;
+
     const MESSAGE_TYPE: MessageType = MessageType::LoggingStream;
 
     const DATA_TYPE: u16 = CAN_FD;
 
     const SHARES: bool = true;
 
-    ghost code = { λ _. code_of logged_can_fd };
+    const FRAME: CanFrame = LOGGED_CAN_FD;
 
-    ghost shares = { λ _. true };
+    ghost MESSAGE_TYPE = { (code_of logged_can_fd).message_type };
 
-    ghost verdict = { λ _. verdict_of (codec (can_shape logged_can_fd)) };
+    ghost DATA_TYPE = { (code_of logged_can_fd).data_type };
 
-    ghost lawful = { λ k. can_lawful logged_can_fd };
+    ghost SHARES = { true };
 
-    fn listing(&self) -> Listing {
-        Listing::new(Self::MESSAGE_TYPE, Self::DATA_TYPE, Self::SHARES)
-    }
-
-    fn check(&self, flags: u16, data: &[u8]) -> Result<usize, RecordRefusal> {
-        check_frame(&LOGGED_CAN_FD, flags, data)
-    }
-
-    fn write(&self, flags: u16, data: &[u8], part: &mut [u8]) -> Result<u16, WriteRefusal> {
-        write_frame(&LOGGED_CAN_FD, flags, data, part)
-    }
+    ghost FRAME = { logged_can_fd };
 }
 
 #[derive(Clone, Copy)]
 pub struct ReplayCanFd;
 
-impl RecordKind for ReplayCanFd {
+impl FrameKind for ReplayCanFd {
+    type Frame = CanFrame;
+
     const MESSAGE_TYPE: MessageType = MessageType::ReplayData;
 
     const DATA_TYPE: u16 = CAN_FD;
 
     const SHARES: bool = false;
 
-    ghost code = { λ _. code_of replay_can_fd };
+    const FRAME: CanFrame = REPLAY_CAN_FD;
 
-    ghost shares = { λ _. false };
+    ghost MESSAGE_TYPE = { (code_of replay_can_fd).message_type };
 
-    ghost verdict = { λ _. verdict_of (codec (can_shape replay_can_fd)) };
+    ghost DATA_TYPE = { (code_of replay_can_fd).data_type };
 
-    ghost lawful = { λ k. can_lawful replay_can_fd };
+    ghost SHARES = { false };
 
-    fn listing(&self) -> Listing {
-        Listing::new(Self::MESSAGE_TYPE, Self::DATA_TYPE, Self::SHARES)
-    }
-
-    fn check(&self, flags: u16, data: &[u8]) -> Result<usize, RecordRefusal> {
-        check_frame(&REPLAY_CAN_FD, flags, data)
-    }
-
-    fn write(&self, flags: u16, data: &[u8], part: &mut [u8]) -> Result<u16, WriteRefusal> {
-        write_frame(&REPLAY_CAN_FD, flags, data, part)
-    }
+    ghost FRAME = { replay_can_fd };
 }

@@ -1,6 +1,6 @@
 // What FlexRay frames are, logged and replay.
-ghost use Rattle.std.specs.Prelude.{◌≡◌};
-ghost use Rattle.kind_flexray.specs.FlexRay.{flex_ray_shape, slot, setting, cycle, frame_id, repetition, header_crc};
+ghost use Rattle.std.specs.Prelude.{◌≡◌, ◌/◌, ◌%◌, ◌^◌};
+ghost use Rattle.kind_flexray.specs.FlexRay.{flex_ray_shape, slot, setting};
 ghost use Rattle.kind_flexray.specs.Shapes.{flexray_shapely};
 
 use frames::Frame;
@@ -25,10 +25,11 @@ const LAST_REPETITION: u64 = 64;
 const LAST_HEADER_CRC: u64 = 0x7FF;
 
 #[derive(Clone, Copy)]
-pub(crate) struct FlexRayFrame {
+pub struct FlexRayFrame {
     pub(crate) direction: MessageType,
 }
 
+// The matches give values by kind, not steps, and read as the table of the kinds.
 impl Frame for FlexRayFrame {
     ghost shape = { λ k. flex_ray_shape k.direction };
 
@@ -71,7 +72,7 @@ impl Frame for FlexRayFrame {
 
     fn tail_as(&self, flags: u16, _count: u8, tail: u64) -> u64 {
         match self.direction {
-            MessageType::ReplayData if !bit(flags, USE_HEADER_CRC) => repetition(tail) << 16,
+            MessageType::ReplayData if !bit(flags, USE_HEADER_CRC) => split(tail).0 << 16,
             _ => tail,
         }
     }
@@ -86,7 +87,7 @@ impl Frame for FlexRayFrame {
         match self.direction {
             MessageType::ReplayData if !is_setting(flags, tail) => Err(RecordRefusal::Setting),
             _ if !is_slot(head) => Err(RecordRefusal::Slot),
-            MessageType::ReplayData if header_crc(tail) > LAST_HEADER_CRC => {
+            MessageType::ReplayData if split(tail).1 > LAST_HEADER_CRC => {
                 Err(RecordRefusal::Checksum)
             }
             _ => Ok(()),
@@ -94,43 +95,26 @@ impl Frame for FlexRayFrame {
     }
 }
 
-// The fields of a header.
-fn cycle(head: u64) -> u64
-    ensures { result ≡ cycle head }
+// The first byte and the last two of a number: cycle and frame ID of a header, repetition and header CRC of a replay trailer.
+fn split(number: u64) -> (u64, u64)
+    ensures first { result.0 ≡ number / 2 ^ 16 }
+    ensures last { result.1 ≡ number % 2 ^ 16 }
 {
-    head >> 16
-}
-
-fn frame_id(head: u64) -> u64
-    ensures { result ≡ frame_id head }
-{
-    head & 0xFFFF
-}
-
-// The fields of a replay trailer.
-fn repetition(tail: u64) -> u64
-    ensures { result ≡ repetition tail }
-{
-    tail >> 16
-}
-
-fn header_crc(tail: u64) -> u64
-    ensures { result ≡ header_crc tail }
-{
-    tail & 0xFFFF
+    (number >> 16, number % (1 << 16))
 }
 
 fn is_slot(head: u64) -> bool
     ensures { result ≡ slot head }
 {
-    cycle(head) <= LAST_CYCLE && matches!(frame_id(head), 1..=LAST_FRAME_ID)
+    let (cycle, frame_id) = split(head);
+    cycle <= LAST_CYCLE && matches!(frame_id, 1..=LAST_FRAME_ID)
 }
 
 // The transmission mode, bits 7 to 9, is one of three; the repetition is a power of two.
 fn is_setting(flags: u16, tail: u64) -> bool
     ensures { result ≡ setting flags tail }
 {
-    let repetition = repetition(tail);
+    let (repetition, _) = split(tail);
     matches!(field(flags, 7, 3), 1..=3)
         && repetition <= LAST_REPETITION
         && repetition.count_ones() == 1

@@ -1,14 +1,11 @@
 // The record kinds of FlexRay: logged and replay.
 ghost use Rattle.std.specs.Prelude.{true};
 ghost use Rattle.records.specs.declared.code.MessageType.TheVariants.{LoggingStream, ReplayData};
-ghost use Rattle.kind_flexray.specs.FlexRay.{flex_ray_code, flex_ray_verdict, flex_ray_shape};
-ghost use Rattle.frames.proofs.Law.{frame_lawful};
-ghost use Rattle.kind_flexray.specs.Shapes.{flexray_shapely};
+ghost use Rattle.kind_flexray.specs.FlexRay.{flex_ray_code};
 
 use crate::frame::FlexRayFrame;
-use frames::{check_frame, write_frame};
-use records::kind::Listing;
-use records::{MessageType, RecordKind, RecordRefusal, WriteRefusal};
+use frames::FrameKind;
+use records::MessageType;
 
 const FLEXRAY: u16 = 0x0008;
 
@@ -23,61 +20,45 @@ const REPLAY: FlexRayFrame = FlexRayFrame {
 #[derive(Clone, Copy)]
 pub struct LoggedFlexRay;
 
-impl RecordKind for LoggedFlexRay {
+impl FrameKind for LoggedFlexRay {
+    type Frame = FlexRayFrame;
+
     const MESSAGE_TYPE: MessageType = MessageType::LoggingStream;
 
     const DATA_TYPE: u16 = FLEXRAY;
 
     const SHARES: bool = true;
 
-    ghost code = { λ _. flex_ray_code LoggingStream };
+    const FRAME: FlexRayFrame = LOGGED;
 
-    ghost shares = { λ _. true };
+    ghost MESSAGE_TYPE = { (flex_ray_code LoggingStream).message_type };
 
-    ghost verdict = { λ _. flex_ray_verdict LoggingStream };
+    ghost DATA_TYPE = { (flex_ray_code LoggingStream).data_type };
 
-    ghost lawful = { λ k. frame_lawful (flex_ray_shape LoggingStream) (flexray_shapely LoggingStream) };
+    ghost SHARES = { true };
 
-    fn listing(&self) -> Listing {
-        Listing::new(Self::MESSAGE_TYPE, Self::DATA_TYPE, Self::SHARES)
-    }
-
-    fn check(&self, flags: u16, data: &[u8]) -> Result<usize, RecordRefusal> {
-        check_frame(&LOGGED, flags, data)
-    }
-
-    fn write(&self, flags: u16, data: &[u8], part: &mut [u8]) -> Result<u16, WriteRefusal> {
-        write_frame(&LOGGED, flags, data, part)
-    }
+    ghost FRAME = { record { direction = LoggingStream } };
 }
 
 #[derive(Clone, Copy)]
 pub struct ReplayFlexRay;
 
-impl RecordKind for ReplayFlexRay {
+impl FrameKind for ReplayFlexRay {
+    type Frame = FlexRayFrame;
+
     const MESSAGE_TYPE: MessageType = MessageType::ReplayData;
 
     const DATA_TYPE: u16 = FLEXRAY;
 
     const SHARES: bool = true;
 
-    ghost code = { λ _. flex_ray_code ReplayData };
+    const FRAME: FlexRayFrame = REPLAY;
 
-    ghost shares = { λ _. true };
+    ghost MESSAGE_TYPE = { (flex_ray_code ReplayData).message_type };
 
-    ghost verdict = { λ _. flex_ray_verdict ReplayData };
+    ghost DATA_TYPE = { (flex_ray_code ReplayData).data_type };
 
-    ghost lawful = { λ k. frame_lawful (flex_ray_shape ReplayData) (flexray_shapely ReplayData) };
+    ghost SHARES = { true };
 
-    fn listing(&self) -> Listing {
-        Listing::new(Self::MESSAGE_TYPE, Self::DATA_TYPE, Self::SHARES)
-    }
-
-    fn check(&self, flags: u16, data: &[u8]) -> Result<usize, RecordRefusal> {
-        check_frame(&REPLAY, flags, data)
-    }
-
-    fn write(&self, flags: u16, data: &[u8], part: &mut [u8]) -> Result<u16, WriteRefusal> {
-        write_frame(&REPLAY, flags, data, part)
-    }
+    ghost FRAME = { record { direction = ReplayData } };
 }

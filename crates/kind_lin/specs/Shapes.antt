@@ -4,6 +4,7 @@ use Rattle.std.proofs.Common.{arith}
 use Rattle.std.proofs.lemmas.Bool.Decides.{nat_tests}
 use Rattle.records.specs.declared.code.MessageType.{MessageType}
 use Rattle.records.specs.declared.code.MessageType.TheVariants.{LoggingStream, ReplayData}
+use Rattle.records.proofs.Masks.{used_again}
 use Rattle.frames.specs.Frames.{Shapely}
 use Rattle.kind_lin.specs.Lin.{lin_shape, kept_flags, allows, id_as, checksum_read}
 
@@ -22,10 +23,6 @@ id_again ReplayData g x = grind (arith, nat_tests)
 id_below : (d : MessageType) (g x : ℕ) → x < 256 → id_as d g x < 256
 id_below LoggingStream g x h = omega arith
 id_below ReplayData g x h = grind (arith, nat_tests)
-
-used_again : (b : Bool) (x : ℕ) → cond b (cond b x 0) 0 ≡ cond b x 0
-used_again true x = refl
-used_again false x = refl
 
 used_below : (b : Bool) (x : ℕ) → x < 256 → cond b x 0 < 256
 used_below true x h = h

@@ -22,10 +22,11 @@ const USE_CHECKSUM: u32 = 13;
 const IDS: u64 = 64;
 
 #[derive(Clone, Copy)]
-pub(crate) struct LinFrame {
+pub struct LinFrame {
     pub(crate) direction: MessageType,
 }
 
+// The matches give values by kind, not steps, and read as the table of the kinds.
 impl Frame for LinFrame {
     ghost shape = { λ k. lin_shape k.direction };
 

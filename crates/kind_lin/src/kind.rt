@@ -1,14 +1,11 @@
 // The record kinds of LIN: logged and replay.
 ghost use Rattle.std.specs.Prelude.{true, false};
 ghost use Rattle.records.specs.declared.code.MessageType.TheVariants.{LoggingStream, ReplayData};
-ghost use Rattle.kind_lin.specs.Lin.{lin_code, lin_verdict, lin_shape};
-ghost use Rattle.frames.proofs.Law.{frame_lawful};
-ghost use Rattle.kind_lin.specs.Shapes.{lin_shapely};
+ghost use Rattle.kind_lin.specs.Lin.{lin_code};
 
 use crate::frame::LinFrame;
-use frames::{check_frame, write_frame};
-use records::kind::Listing;
-use records::{MessageType, RecordKind, RecordRefusal, WriteRefusal};
+use frames::FrameKind;
+use records::MessageType;
 
 const LIN: u16 = 0x0004;
 
@@ -23,61 +20,45 @@ const REPLAY: LinFrame = LinFrame {
 #[derive(Clone, Copy)]
 pub struct LoggedLin;
 
-impl RecordKind for LoggedLin {
+impl FrameKind for LoggedLin {
+    type Frame = LinFrame;
+
     const MESSAGE_TYPE: MessageType = MessageType::LoggingStream;
 
     const DATA_TYPE: u16 = LIN;
 
     const SHARES: bool = true;
 
-    ghost code = { λ _. lin_code LoggingStream };
+    const FRAME: LinFrame = LOGGED;
 
-    ghost shares = { λ _. true };
+    ghost MESSAGE_TYPE = { (lin_code LoggingStream).message_type };
 
-    ghost verdict = { λ _. lin_verdict LoggingStream };
+    ghost DATA_TYPE = { (lin_code LoggingStream).data_type };
 
-    ghost lawful = { λ k. frame_lawful (lin_shape LoggingStream) (lin_shapely LoggingStream) };
+    ghost SHARES = { true };
 
-    fn listing(&self) -> Listing {
-        Listing::new(Self::MESSAGE_TYPE, Self::DATA_TYPE, Self::SHARES)
-    }
-
-    fn check(&self, flags: u16, data: &[u8]) -> Result<usize, RecordRefusal> {
-        check_frame(&LOGGED, flags, data)
-    }
-
-    fn write(&self, flags: u16, data: &[u8], part: &mut [u8]) -> Result<u16, WriteRefusal> {
-        write_frame(&LOGGED, flags, data, part)
-    }
+    ghost FRAME = { record { direction = LoggingStream } };
 }
 
 #[derive(Clone, Copy)]
 pub struct ReplayLin;
 
-impl RecordKind for ReplayLin {
+impl FrameKind for ReplayLin {
+    type Frame = LinFrame;
+
     const MESSAGE_TYPE: MessageType = MessageType::ReplayData;
 
     const DATA_TYPE: u16 = LIN;
 
     const SHARES: bool = false;
 
-    ghost code = { λ _. lin_code ReplayData };
+    const FRAME: LinFrame = REPLAY;
 
-    ghost shares = { λ _. false };
+    ghost MESSAGE_TYPE = { (lin_code ReplayData).message_type };
 
-    ghost verdict = { λ _. lin_verdict ReplayData };
+    ghost DATA_TYPE = { (lin_code ReplayData).data_type };
 
-    ghost lawful = { λ k. frame_lawful (lin_shape ReplayData) (lin_shapely ReplayData) };
+    ghost SHARES = { false };
 
-    fn listing(&self) -> Listing {
-        Listing::new(Self::MESSAGE_TYPE, Self::DATA_TYPE, Self::SHARES)
-    }
-
-    fn check(&self, flags: u16, data: &[u8]) -> Result<usize, RecordRefusal> {
-        check_frame(&REPLAY, flags, data)
-    }
-
-    fn write(&self, flags: u16, data: &[u8], part: &mut [u8]) -> Result<u16, WriteRefusal> {
-        write_frame(&REPLAY, flags, data, part)
-    }
+    ghost FRAME = { record { direction = ReplayData } };
 }

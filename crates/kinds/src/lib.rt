@@ -5,22 +5,27 @@ ghost use Rattle.std.specs.Prelude.{◌≡◌};
 ghost use Rattle.kinds.specs.Examples.{Examples};
 ghost use Rattle.kinds.specs.Table.{sharing_table};
 
+use frames::Framed;
 use kind_analog::Analog;
-use kind_bytes::{LoggedEthernet, LoggedUart};
+use kind_bytes::{LoggedEthernet, LoggedUart, PlainBytes};
 use kind_can::{LoggedCan, LoggedCanFd, ReplayCan, ReplayCanFd};
 use kind_flexray::{LoggedFlexRay, ReplayFlexRay};
 use kind_lin::{LoggedLin, ReplayLin};
 use records::registry::{Chain, Single};
 use records::{Code, Registry};
 
-type Buses<CanKind, CanFdKind, LinKind, FlexRayKind> = Chain<
-    Chain<Single<CanKind>, Single<CanFdKind>>,
-    Chain<Single<LinKind>, Single<FlexRayKind>>,
+type Frames<K> = Single<Framed<K>>;
+
+type Plain<K> = Single<PlainBytes<K>>;
+
+type Buses<Can, CanFd, Lin, FlexRay> = Chain<
+    Chain<Frames<Can>, Frames<CanFd>>,
+    Chain<Frames<Lin>, Frames<FlexRay>>,
 >;
 
 type Logged = Chain<
     Buses<LoggedCan, LoggedCanFd, LoggedLin, LoggedFlexRay>,
-    Chain<Single<Analog>, Chain<Single<LoggedUart>, Single<LoggedEthernet>>>,
+    Chain<Single<Analog>, Chain<Plain<LoggedUart>, Plain<LoggedEthernet>>>,
 >;
 
 type Replay = Buses<ReplayCan, ReplayCanFd, ReplayLin, ReplayFlexRay>;
@@ -32,35 +37,55 @@ pub const STANDARD: Standard = Chain {
     left: Chain {
         left: Chain {
             left: Chain {
-                left: Single { kind: LoggedCan },
-                right: Single { kind: LoggedCanFd },
+                left: Single {
+                    kind: Framed { kind: LoggedCan },
+                },
+                right: Single {
+                    kind: Framed { kind: LoggedCanFd },
+                },
             },
             right: Chain {
-                left: Single { kind: LoggedLin },
+                left: Single {
+                    kind: Framed { kind: LoggedLin },
+                },
                 right: Single {
-                    kind: LoggedFlexRay,
+                    kind: Framed {
+                        kind: LoggedFlexRay,
+                    },
                 },
             },
         },
         right: Chain {
             left: Single { kind: Analog },
             right: Chain {
-                left: Single { kind: LoggedUart },
+                left: Single {
+                    kind: PlainBytes { kind: LoggedUart },
+                },
                 right: Single {
-                    kind: LoggedEthernet,
+                    kind: PlainBytes {
+                        kind: LoggedEthernet,
+                    },
                 },
             },
         },
     },
     right: Chain {
         left: Chain {
-            left: Single { kind: ReplayCan },
-            right: Single { kind: ReplayCanFd },
+            left: Single {
+                kind: Framed { kind: ReplayCan },
+            },
+            right: Single {
+                kind: Framed { kind: ReplayCanFd },
+            },
         },
         right: Chain {
-            left: Single { kind: ReplayLin },
+            left: Single {
+                kind: Framed { kind: ReplayLin },
+            },
             right: Single {
-                kind: ReplayFlexRay,
+                kind: Framed {
+                    kind: ReplayFlexRay,
+                },
             },
         },
     },

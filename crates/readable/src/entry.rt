@@ -1,6 +1,7 @@
 // An entry as one line: interface, time, and what its record says.
 use crate::record::write_record;
 use records::Registry;
+use records::kind::DATA_LIMIT;
 use std::fmt;
 use tecmp::entry::{EntryView, TIME_BITS};
 
@@ -8,9 +9,6 @@ use tecmp::entry::{EntryView, TIME_BITS};
 const NOT_SYNCHRONIZED: u64 = 1 << 63;
 
 const RECALCULATED: u64 = 1 << 62;
-
-// The longest data that a record kind accepts.
-const DATA_LIMIT: usize = 1472;
 
 #[derive(Clone, Copy)]
 pub struct EntryText<'r, 'p, R> {
@@ -30,8 +28,7 @@ impl<R: Registry> fmt::Display for EntryText<'_, '_, R> {
         if entry.time & RECALCULATED != 0 {
             write!(f, " (recalculated)")?;
         }
-        let mut buffer = [0; DATA_LIMIT];
-        write_content(f, self.registry, entry, &mut buffer)
+        write_content(f, self.registry, entry)
     }
 }
 
@@ -40,16 +37,16 @@ fn write_content<W: fmt::Write, R: Registry>(
     f: &mut fmt::Formatter<W>,
     registry: &R,
     entry: EntryView,
-    buffer: &mut [u8],
 ) -> fmt::Result {
+    let mut buffer = [0; DATA_LIMIT];
     let Ok(length) = registry.check(entry.code, entry.flags, entry.data) else {
         return Ok(());
     };
-    if length > buffer.len() {
+    let Some(part) = buffer.get_mut(..length) else {
         return Ok(());
-    }
-    match registry.write(entry.code, entry.flags, entry.data, &mut buffer[0..length]) {
-        Ok(flags) => write_record(f, entry.code, flags, &buffer[0..length]),
+    };
+    match registry.write(entry.code, entry.flags, entry.data, part) {
+        Ok(flags) => write_record(f, entry.code, flags, part),
         Err(_) => Ok(()),
     }
 }

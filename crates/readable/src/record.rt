@@ -1,24 +1,55 @@
 // What a record says, from its canonical flags and data.
 use crate::decimal::Decimal;
-use kind_analog::{AnalogReading, Unit, read_analog};
+use kind_analog::{AnalogReading, read_analog};
 use records::{Code, MessageType};
 use std::fmt;
 
+// What the data of a record is made of.
+#[derive(Clone, Copy)]
+enum Layout {
+    Can,
+    CanFd,
+    Lin,
+    FlexRay,
+    Uart,
+    Analog,
+    Ethernet,
+}
+
+// Any other data type is handed back.
+impl TryFrom<u16> for Layout {
+    type Error = u16;
+
+    fn try_from(data_type: u16) -> Result<Layout, u16> {
+        match data_type {
+            0x02 => Ok(Layout::Can),
+            0x03 => Ok(Layout::CanFd),
+            0x04 => Ok(Layout::Lin),
+            0x08 => Ok(Layout::FlexRay),
+            0x10 => Ok(Layout::Uart),
+            0x20 => Ok(Layout::Analog),
+            0x80 => Ok(Layout::Ethernet),
+            _ => Err(data_type),
+        }
+    }
+}
+
+// What follows are functions over a formatter: parts of one `Display`, with no values of their own to print.
 pub(crate) fn write_record<W: fmt::Write>(
     f: &mut fmt::Formatter<W>,
     code: Code,
     flags: u16,
     data: &[u8],
 ) -> fmt::Result {
-    match code.data_type {
-        0x02 => write_can(f, "CAN", data)?,
-        0x03 => write_can(f, "CAN-FD", data)?,
-        0x04 => write_lin(f, data)?,
-        0x08 => write_flexray(f, code.message_type, data)?,
-        0x10 => write_uart(f, data)?,
-        0x20 => return write_analog(f, flags, data),
-        0x80 => write_ethernet(f, data)?,
-        _ => (),
+    match Layout::try_from(code.data_type) {
+        Ok(Layout::Can) => write_can(f, "CAN", data)?,
+        Ok(Layout::CanFd) => write_can(f, "CAN-FD", data)?,
+        Ok(Layout::Lin) => write_lin(f, data)?,
+        Ok(Layout::FlexRay) => write_flexray(f, code.message_type, data)?,
+        Ok(Layout::Uart) => write_uart(f, data)?,
+        Ok(Layout::Analog) => return write_analog(f, flags, data),
+        Ok(Layout::Ethernet) => write_ethernet(f, data)?,
+        Err(_) => (),
     }
     write!(f, ", flags {flags:04x}")
 }
@@ -87,8 +118,8 @@ fn write_uart<W: fmt::Write>(f: &mut fmt::Formatter<W>, data: &[u8]) -> fmt::Res
     write!(f, ", UART \"")?;
     for byte in data {
         match byte {
-            b'"' | b'\\' => write!(f, "\\{}", *byte as char)?,
-            b' '..=b'~' => write!(f, "{}", *byte as char)?,
+            b'"' | b'\\' => write!(f, "\\{}", char::from(*byte))?,
+            b' '..=b'~' => write!(f, "{}", char::from(*byte))?,
             _ => write!(f, "\\x{byte:02x}")?,
         }
     }
@@ -108,25 +139,13 @@ fn write_analog<W: fmt::Write>(f: &mut fmt::Formatter<W>, flags: u16, data: &[u8
 }
 
 fn write_reading<W: fmt::Write>(f: &mut fmt::Formatter<W>, reading: AnalogReading) -> fmt::Result {
-    let unit = symbol(reading.unit);
+    let unit = reading.unit;
     let ten_thousandths = reading.period.microseconds() as i32 * 10;
     let period = Decimal { ten_thousandths };
     write!(f, ", one sample every {period} ms:")?;
-    for index in 0..reading.len() {
-        if let Some(ten_thousandths) = reading.value(index) {
-            let value = Decimal { ten_thousandths };
-            write!(f, " {value} {unit}")?;
-        }
+    for ten_thousandths in reading.values() {
+        let value = Decimal { ten_thousandths };
+        write!(f, " {value} {unit}")?;
     }
     Ok(())
-}
-
-fn symbol(unit: Unit) -> &'static str {
-    match unit {
-        Unit::Volt => "V",
-        Unit::Ampere => "A",
-        Unit::Watt => "W",
-        Unit::AmpereHour => "Ah",
-        Unit::Celsius => "°C",
-    }
 }

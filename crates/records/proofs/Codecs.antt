@@ -1,5 +1,5 @@
 -- A sound codec keeps the law of a kind. Assumes nothing.
-use Rattle.std.proofs.Common.{◌≡◌, ℕ, ◌^◌, ◌<◌, List, length, ℤ, Ok, Err, Result, sym, refl, ap, ◌∙◌, subst, arith}
+use Rattle.std.proofs.Common.{◌≡◌, ℕ, ◌^◌, ◌<◌, List, length, ℤ, Ok, Err, Result, sym, refl, ap, ◌∙◌, subst}
 use Rattle.records.specs.declared.refusal.RecordRefusal.{RecordRefusal}
 use Rattle.records.specs.Codecs.{Codec, Sound, encoded, verdict_of}
 use Rattle.records.specs.Tests.{tested, Passed}
@@ -10,7 +10,7 @@ module _ {S : Type 0} (k : Codec S) (sound : Sound k) where
   -- an answer that is encoded as accepted is a value
   taken : (r : Result S RecordRefusal) (s : List ℤ) (g : ℕ) (p : List ℕ) → encoded k r ≡ accepts s g p → (x : S) × (r ≡ Ok x)
   taken (Ok x) s g p e = (x, refl)
-  taken (Err w) s g p e = let z : ◌≡◌ {A = ℕ} 0 1 = cc in absurd (omega arith)
+  taken (Err w) s g p e = cc
 
   accepted_passed : (f : ℕ) (d : List ℕ) (s : List ℤ) (g : ℕ) (p : List ℕ) → verdict_of k f d ≡ accepts s g p → Passed (k.tests f d)
   accepted_passed f d s g p e =
@@ -61,7 +61,7 @@ module _ {S : Type 0} (k : Codec S) (sound : Sound k) where
 
   checked_passed : (f : ℕ) (d : List ℕ) (r : Result S RecordRefusal) (n : ℕ) → checked (encoded k r) ≡ Ok n → (x : S) × (r ≡ Ok x)
   checked_passed f d (Ok x) n e = (x, refl)
-  checked_passed f d (Err w) n e = let z : ◌≡◌ {A = ℕ} 0 1 = cc in absurd (omega arith)
+  checked_passed f d (Err w) n e = cc
 
   -- for the inner call that writes: what its `requires` says, and what it answers
   pub accepted : (f : ℕ) (d : List ℕ) (n : ℕ) → checked (verdict_of k f d) ≡ Ok n → Passed (k.tests f d) × (n ≡ length d)

@@ -9,5 +9,5 @@ pub mod registry;
 
 pub use code::{Code, MessageType};
 pub use kind::RecordKind;
-pub use refusal::{RecordRefusal, Refusal, WriteRefusal};
+pub use refusal::{Numbered, RecordRefusal, Refusal, WriteRefusal};
 pub use registry::Registry;

@@ -1,15 +1,20 @@
 // Why a call refuses: one variant for each refusal number, with the offset where the refusal has one.
 pub mod text;
 
-ghost use Rattle.std.specs.Prelude.{◌≡◌, Decides, nat_eq};
+ghost use Rattle.std.specs.Prelude.{◌≡◌, ℕ};
 ghost use Rattle.records.specs.Numbers.{number_of, offset_of, record_number, write_number, lookup_number};
-ghost use Rattle.std.specs.Cmp.Rules.{comparing};
-ghost use Rattle.std.specs.Ordering.{eq_of_both, on};
-ghost use Rattle.std.proofs.Common.{rules};
-ghost use Rattle.std.specs.Cmp as Keys;
+ghost use Rattle.records.specs.declared.refusal.WriteRefusal.TheVariants.{Record};
+
+// What is refused with a number.
+pub trait Numbered {
+    ghost number: { Self → ℕ };
+
+    fn number(self) -> u8
+        ensures { result ≡ number self };
+}
 
 // Why a packet, an added entry or a copy is refused: numbers 1 to 18.
-#[derive(Clone, Copy, Debug)]
+#[derive(Clone, Copy, PartialEq, Eq, Debug)]
 pub enum Refusal {
     PacketTooShort,
     TooLong,
@@ -31,10 +36,10 @@ pub enum Refusal {
     MalformedCopy,
 }
 
-impl Refusal {
-    pub fn number(self) -> u8
-        ensures { result ≡ number_of self }
-    {
+impl Numbered for Refusal {
+    ghost number = { number_of };
+
+    fn number(self) -> u8 {
         match self {
             Refusal::PacketTooShort => 1,
             Refusal::TooLong => 2,
@@ -56,8 +61,10 @@ impl Refusal {
             Refusal::MalformedCopy => 18,
         }
     }
+}
 
-    // Where the refused bytes begin, 0 for a refusal of the whole.
+impl Refusal {
+    // Where the refused bytes begin; 0, as a rule of the format, for a refusal of the whole.
     pub fn offset(self) -> usize
         ensures { result ≡ offset_of self }
     {
@@ -73,24 +80,6 @@ impl Refusal {
     }
 }
 
-// Number and offset tell which refusal it is.
-impl PartialEq for Refusal {
-    ghost eq = { eq_of_both (on number_of nat_eq) (on offset_of nat_eq) };
-
-    ghost laws = { Keys.partial_equiv_from_equiv (Prim.search (comparing, rules)) };
-
-    fn eq(&self, other: &Refusal) -> bool
-        ensures value { result ≡ eq_of_both (on number_of nat_eq) (on offset_of nat_eq) self.now other.now }
-        ensures same { Decides result (self.now ≡ other.now) }
-    {
-        self.number() == other.number() && self.offset() == other.offset()
-    }
-}
-
-impl Eq for Refusal {
-    ghost laws = { Prim.search (comparing, rules) };
-}
-
 // Why a record kind refuses flags and data: numbers 21 to 26.
 #[derive(Clone, Copy, PartialEq, Eq, Debug)]
 pub enum RecordRefusal {
@@ -102,10 +91,10 @@ pub enum RecordRefusal {
     Slot,
 }
 
-impl RecordRefusal {
-    pub fn number(self) -> u8
-        ensures { result ≡ record_number self }
-    {
+impl Numbered for RecordRefusal {
+    ghost number = { record_number };
+
+    fn number(self) -> u8 {
         match self {
             RecordRefusal::Length => 21,
             RecordRefusal::Identifier => 22,
@@ -124,10 +113,18 @@ pub enum WriteRefusal {
     PartLength,
 }
 
-impl WriteRefusal {
-    pub fn number(self) -> u8
-        ensures { result ≡ write_number self }
-    {
+impl From<RecordRefusal> for WriteRefusal {
+    ghost from_gives = { λ refusal write. write ≡ Record refusal };
+
+    fn from(refusal: RecordRefusal) -> WriteRefusal {
+        Self::Record(refusal)
+    }
+}
+
+impl Numbered for WriteRefusal {
+    ghost number = { write_number };
+
+    fn number(self) -> u8 {
         match self {
             WriteRefusal::Record(refusal) => refusal.number(),
             WriteRefusal::PartLength => 14,
@@ -142,24 +139,13 @@ pub enum LookupRefusal<E> {
     Kind(E),
 }
 
-impl LookupRefusal<RecordRefusal> {
-    pub fn number(self) -> u8
-        ensures { result ≡ lookup_number record_number self }
-    {
-        match self {
-            LookupRefusal::UnknownCode => 7,
-            LookupRefusal::Kind(record) => record.number(),
-        }
-    }
-}
+impl<E: Numbered> Numbered for LookupRefusal<E> {
+    ghost number = { lookup_number E.Numbered.number };
 
-impl LookupRefusal<WriteRefusal> {
-    pub fn number(self) -> u8
-        ensures { result ≡ lookup_number write_number self }
-    {
+    fn number(self) -> u8 {
         match self {
             LookupRefusal::UnknownCode => 7,
-            LookupRefusal::Kind(write) => write.number(),
+            LookupRefusal::Kind(refusal) => refusal.number(),
         }
     }
 }

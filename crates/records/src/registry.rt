@@ -1,5 +1,6 @@
 // A registry: a set of record kinds, asked by code.
-ghost use Rattle.std.specs.Prelude.{◌≡◌, ℕ, Bool, List, length};
+ghost use Rattle.std.specs.Prelude.{◌≡◌, List, length};
+ghost use Rattle.records.specs.Codes.{code_with};
 ghost use Rattle.records.specs.Services.{Services, LawfulService, single, or_else, sharing_of, checked_by, written_by, canonical_by};
 ghost use Rattle.records.specs.Verdicts.{Filled};
 ghost use Rattle.records.specs.declared.code.Code.{Code as CodeOf};
@@ -47,18 +48,15 @@ pub struct Single<K> {
     pub kind: K,
 }
 
+// `check` and `write` differ in what they ask of the kind: one function for both would take that as a closure, and be longer.
 impl<K: RecordKind> Registry for Single<K> {
-    ghost services = { λ s. single (K.RecordKind.code s.kind) (K.RecordKind.shares s.kind) (K.RecordKind.verdict s.kind) };
+    ghost services = { λ s. single (code_with K.RecordKind.MESSAGE_TYPE K.RecordKind.DATA_TYPE) K.RecordKind.SHARES (K.RecordKind.verdict s.kind) };
 
     ghost lawful = { Prim.search rules };
 
     fn sharing(&self, code: Code) -> Option<bool> {
         let listing = self.kind.listing();
-        if listing.code == code {
-            Some(listing.shares)
-        } else {
-            None
-        }
+        (listing.code == code).then_some(listing.shares)
     }
 
     fn check(
@@ -70,10 +68,7 @@ impl<K: RecordKind> Registry for Single<K> {
         if self.kind.listing().code != code {
             return Err(LookupRefusal::UnknownCode);
         }
-        match self.kind.check(flags, data) {
-            Ok(length) => Ok(length),
-            Err(refusal) => Err(LookupRefusal::Kind(refusal)),
-        }
+        self.kind.check(flags, data).map_err(LookupRefusal::Kind)
     }
 
     fn write(
@@ -86,10 +81,9 @@ impl<K: RecordKind> Registry for Single<K> {
         if self.kind.listing().code != code {
             return Err(LookupRefusal::UnknownCode);
         }
-        match self.kind.write(flags, data, part) {
-            Ok(flags) => Ok(flags),
-            Err(refusal) => Err(LookupRefusal::Kind(refusal)),
-        }
+        self.kind
+            .write(flags, data, part)
+            .map_err(LookupRefusal::Kind)
     }
 }
 
@@ -100,16 +94,14 @@ pub struct Chain<L, R> {
     pub right: R,
 }
 
+// Here too.
 impl<L: Registry, R: Registry> Registry for Chain<L, R> {
     ghost services = { λ s code. or_else (L.Registry.services s.left code) (R.Registry.services s.right code) };
 
     ghost lawful = { Prim.search rules };
 
     fn sharing(&self, code: Code) -> Option<bool> {
-        match self.left.sharing(code) {
-            None => self.right.sharing(code),
-            answer => answer,
-        }
+        self.left.sharing(code).or_else(|| self.right.sharing(code))
     }
 
     fn check(

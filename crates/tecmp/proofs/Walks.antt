@@ -1,14 +1,19 @@
 -- Reading on from entry to entry. Assumes nothing.
-use Rattle.std.proofs.Common.{◌≡◌, ℕ, zero, suc, ◌+◌, ◌-◌, ◌<◌, ◌≤◌, Bool, true, false, cond, ◌&&◌, eqb, ltb, leb, List, [], ◌∷◌, length, drop, is_ok, Some, None, Ok, Err, Result, sym, refl, ap, ◌∙◌, subst, arith, length-drop, ltb-true, leb-true}
+use Rattle.std.proofs.Common.{◌≡◌, ℕ, zero, suc, ◌+◌, ◌-◌, ◌<◌, ◌≤◌, Bool, true, false, cond, ◌&&◌, eqb, ltb, leb, List, [], ◌∷◌, length, drop, is_ok, Some, None, Ok, Err, Option, Result, sym, refl, ap, ap₂, ◌∙◌, subst, arith, length-drop, ltb-true, leb-true}
 use Rattle.std.proofs.lemmas.Bool.Decides.{nat_tests}
 use Rattle.std.proofs.lemmas.Bool.{and_parts}
 use Rattle.records.specs.declared.code.Code.{Code}
 use Rattle.tecmp.specs.declared.head.Head.{Head}
+use Rattle.tecmp.specs.declared.packet.Packet.{Packet}
 use Rattle.records.specs.declared.refusal.Refusal.{Refusal}
 use Rattle.records.specs.declared.refusal.Refusal.TheVariants.{PastEnd, NotShared, Padding}
-use Rattle.tecmp.specs.Entries.{Entries, before, onward, walked_by, entries_by, entries_from, entries_at, counted, ByReading}
+use Rattle.tecmp.specs.Entries.{Entries, before, onward, walked_by, entries_by, entries_from, counted, ByReading}
+use Rattle.tecmp.specs.Steps.{Steps, steps_from, steps_left, read_from, entries_left, left}
+use Rattle.tecmp.specs.Views.{viewed}
+use Rattle.tecmp.specs.declared.entries.PacketEntries.{PacketEntries}
+use Rattle.tecmp.specs.declared.entry.EntryView.{EntryView}
 use Rattle.tecmp.specs.Layout.{zeros, data_length, code_of}
-use Rattle.tecmp.specs.Reading.{Entry, Found, Answer, head_tests, head_of, head_reading, entry_tests, found_of, here, of_rest_by, inside_by, inside, reading}
+use Rattle.tecmp.specs.Reading.{Entry, Found, Answer, head_tests, head_of, head_reading, entry_tests, found_of, here, of_rest_by, inside_by, inside}
 use Rattle.records.specs.Services.{Services, Service, shares_in, checked_by}
 use Rattle.records.specs.Tests.{tested, Passed}
 use Rattle.records.proofs.Tested.{passed, tested_ok, tested_err}
@@ -18,11 +23,11 @@ rest_found : (v : Service) (shares : Bool) (code : Code) (n at : ℕ) (t : List 
 rest_found v shares code n at t f = go (eqb (length t) 0) (ltb 12 at) (zeros t) (leb n 46) shares
   where
     go : (a b z l s : Bool) → cond a (Ok None) (cond b (cond z (cond l (Ok None) (Err (Padding at))) (cond s (here v code at t) (Err (NotShared at)))) (here v code at t)) ≡ Ok (Some f) → here v code at t ≡ Ok (Some f)
-    go true b z l s e = let x : ◌≡◌ {A = ℕ} 0 1 = cc in absurd (omega arith)
-    go false true true true s e = let x : ◌≡◌ {A = ℕ} 0 1 = cc in absurd (omega arith)
-    go false true true false s e = let x : ◌≡◌ {A = ℕ} 0 1 = cc in absurd (omega arith)
+    go true b z l s e = absurd cc
+    go false true true true s e = absurd cc
+    go false true true false s e = absurd cc
     go false true false l true e = e
-    go false true false l false e = let x : ◌≡◌ {A = ℕ} 0 1 = cc in absurd (omega arith)
+    go false true false l false e = absurd cc
     go false false z l s e = e
 
 some_eq : (f g : Found) → ◌≡◌ {A = Answer} (Ok (Some g)) (Ok (Some f)) → f ≡ g
@@ -106,12 +111,8 @@ counted_more n e (Ok es) = let z : n + suc (length es) ≡ n + 1 + length es = o
 counted_more n e (Err w) = refl
 
 pub counted_err : (n : ℕ) (es : Entries) (w : Refusal) → Err w ≡ counted n es → es ≡ Err w
-counted_err n (Ok es) w e = let z : ◌≡◌ {A = ℕ} 0 1 = cc in absurd (omega arith)
+counted_err n (Ok es) w e = absurd cc
 counted_err n (Err v) w e = let q : v ≡ w = cc in ap Err q
-
-pub counted_ok : (n : ℕ) (es : Entries) (k : ℕ) → Ok k ≡ counted n es → is_ok es ≡ true
-counted_ok n (Ok es) k e = refl
-counted_ok n (Err v) k e = let z : ◌≡◌ {A = ℕ} 0 1 = cc in absurd (omega arith)
 
 -- a row of tests that passes, passes for every offset
 tests_onward : (services : Services) (s : List ℕ) (ts : List (Bool × Refusal)) (at : ℕ)
@@ -124,26 +125,6 @@ tests_onward services s ((false, w) ∷ ts) at = refl
 pub by_reading : ByReading
 by_reading services s = (refl, tests_onward services s (head_tests services None s))
 
--- what is known of an entry that was read
-pub record Read (services : Services) (s : List ℕ) (at : ℕ) (f : Found) : Type 0 where
-  pub ahead : at + 16 < f.next
-  pub within : f.next ≤ length s
-  pub accepted : is_ok (checked_by (services f.entry.code) f.entry.flags f.entry.bytes) ≡ true
-  pub rest : entries_at services s at ≡ before f.entry (entries_at services s f.next)
-
-pub was_read : (services : Services) (s : List ℕ) (at : ℕ) (f : Found) → reading services s at ≡ Ok (Some f) → Read services s at f
-was_read services s at f e =
-    let code = code_of s in
-    let v = services code in
-    let p = passed (head_tests services None s) (inside v code s at) (Some f) e in
-    let i = entered v (shares_in v) code s at f p.1 in
-    record {
-      ahead = i.ahead;
-      within = i.within;
-      accepted = entered_accepted services code s at f i;
-      rest = (by_reading services s).1 at ∙ ap (λ a. onward a (entries_at services s)) e;
-    }
-
 -- after the head's tests comes what its head gives; a head that is refused refuses all
 pub by_head : {A : Type 0} (services : Services) (s : List ℕ) (next : Head → Result A Refusal) (head : Head)
     → Ok head ≡ head_reading services None s → next head ≡ tested (head_tests services None s) (next (head_of services s))
@@ -151,6 +132,52 @@ by_head services s next head e =
     let t = tested_ok (head_tests services None s) head (head_of services s) (next (head_of services s)) e in
     ap next t.1 ∙ sym t.0
 
+-- the same of a packet that was opened
+pub by_packet : {R A : Type 0} (services : R → Services) (registry : R) (s : List ℕ) (next : Services → Head → List ℕ → Result A Refusal) (packet : Packet R)
+    → Ok packet.head ≡ head_reading (services registry) None s → (packet.registry.now ≡ registry) × (packet.bytes.now ≡ s)
+    → next (services packet.registry.now) packet.head packet.bytes.now
+    ≡ tested (head_tests (services registry) None s) (next (services registry) (head_of (services registry) s) s)
+by_packet services registry s next packet e same =
+    ap₂ (λ r b. next (services r) packet.head b) same.0 same.1 ∙ by_head (services registry) s (λ head. next (services registry) head s) packet.head e
+
 pub no_head : {A : Type 0} (services : Services) (s : List ℕ) (r : Result A Refusal) (w : Refusal)
     → Err w ≡ head_reading services None s → Err w ≡ tested (head_tests services None s) r
 no_head services s r w e = tested_err (head_tests services None s) w (head_of services s) r e
+
+-- what is known of a step that gave an entry
+pub record Stepped {R : Type 0} (services : R → Services) (s : PacketEntries R) (e : Entry) (t : PacketEntries R) : Type 0 where
+  pub packet : t.packet ≡ s.packet
+  pub rest : left services s ≡ before e (left services t)
+  pub fewer : steps_left t + 16 < steps_left s
+  pub accepted : is_ok (checked_by (services s.packet.registry.now e.code) e.flags e.bytes) ≡ true
+
+module _ {R : Type 0} (services : R → Services) (s : PacketEntries R) where
+  found_from : (f : Found) (packet : Packet R) (from : Option ℕ) → read_from services packet from ≡ Ok (Some f)
+      → (entries_left services packet from ≡ before f.entry (entries_left services packet (Some f.next)))
+      × (steps_from (length packet.bytes.now) (Some f.next) + 16 < steps_from (length packet.bytes.now) from)
+      × (is_ok (checked_by (services packet.registry.now f.entry.code) f.entry.flags f.entry.bytes) ≡ true)
+  found_from f packet None e = absurd cc
+  found_from f packet (Some at) e =
+      let v = services packet.registry.now packet.head.code in
+      let i = entered v packet.head.shares packet.head.code packet.bytes.now at f e in (
+        further v packet.head.shares packet.head.code packet.bytes.now at f e,
+        omega (arith, i.ahead, i.within),
+        entered_accepted (services packet.registry.now) packet.head.code packet.bytes.now at f i,
+      )
+
+  pub step_found : (f : Found) (t : PacketEntries R) → read_from services s.packet s.next ≡ Ok (Some f) → t.next ≡ Some f.next → t.packet ≡ s.packet → Stepped services s f.entry t
+  step_found f t e n p =
+      let o = found_from f s.packet s.next e in
+      let few : steps_from (length s.packet.bytes.now) (Some f.next) ≡ steps_left t = ap₂ (λ (q : Packet R) m. steps_from (length q.bytes.now) m) (sym p) (sym n) in
+      record {
+        packet = p;
+        rest = o.0 ∙ ap (before f.entry) (ap₂ (entries_left services) (sym p) (sym n));
+        fewer = subst (λ k. k + 16 < steps_left s) few o.1;
+        accepted = o.2;
+      }
+
+  pub step_ok : (given : Result EntryView Refusal) (e : EntryView) (t : PacketEntries R) → Steps services s (Some given) t → given ≡ Ok e → Stepped services s (viewed e) t
+  step_ok (Err w) e t step q = absurd cc
+  step_ok (Ok d) e t step q =
+      let same : d ≡ e = cc in
+      subst (λ x. Stepped services s (viewed x) t) same (step_found (record { entry = viewed d; next = step.0.0 }) t step.0.1 step.0.2 step.1)

@@ -1,5 +1,7 @@
 pub mod Entries
 pub mod Heads
 pub mod Layout
+pub mod Packets
 pub mod Reading
 pub mod Views
+pub mod Steps

@@ -1,30 +1,33 @@
 // The head of a packet: its tests, and what it says.
 ghost use Rattle.std.specs.Prelude.{◌≡◌};
 ghost use Rattle.tecmp.specs.Reading.{head_reading};
-ghost use Rattle.tecmp.specs.Heads.{Splits, head_from, of_type, of_module};
+ghost use Rattle.tecmp.specs.Heads.{Splits, head_from};
 
 use records::code::{Code, MessageType};
 use records::refusal::Refusal;
 use records::registry::Registry;
 
-const PACKET_LIMIT: usize = 1500;
+// The most bytes of a packet.
+pub const PACKET_LIMIT: usize = 1500;
 
-const ENTRY_HEAD: usize = 16;
+// The bytes of an entry's head.
+pub const ENTRY_HEAD: usize = 16;
 
-const VERSION: u8 = 3;
+pub const VERSION: u8 = 3;
 
-const LAST_MODULE: u16 = 255;
+pub const LAST_MODULE: u16 = 255;
+
 // End and start of a segment: both are set in a message that is whole.
 const WHOLE: u16 = 0b11;
 
-// Where packets come from or go to: message type and module, which is 0 in replay.
+// Where packets come from or go to: message type and module, which is 0 in replay: the format has it so, also where it is written.
 #[derive(Clone, Copy)]
 pub struct Stream {
     pub message_type: MessageType,
     pub module: u16,
 }
 
-// What the head of a packet says. In replay module and counter are not read, and 0 here.
+// What the head of a packet says. In replay module and counter are not read, and 0 here, as the format has them.
 #[derive(Clone, Copy)]
 pub struct Head {
     pub stream: Stream,
@@ -98,25 +101,6 @@ fn split_head(packet: &[u8]) -> Option<Fields<'_>>
     })
 }
 
-// Whether a packet of this type, or from this module, is of the stream asked for: any is, where none is asked for.
-fn has_type(stream: Option<Stream>, message_type: MessageType) -> bool
-    ensures { result ≡ of_type stream message_type }
-{
-    match stream {
-        None => true,
-        Some(stream) => message_type == stream.message_type,
-    }
-}
-
-fn has_module(stream: Option<Stream>, device_id: u16) -> bool
-    ensures { result ≡ of_module stream device_id }
-{
-    match stream {
-        None => true,
-        Some(stream) => device_id == stream.module,
-    }
-}
-
 // Tests 1 to 7 of a packet, and its head; where a stream is given, the packet has to be of it.
 pub fn read_head<R: Registry>(
     registry: &R,
@@ -125,9 +109,7 @@ pub fn read_head<R: Registry>(
 ) -> Result<Head, Refusal>
     ensures { result ≡ head_reading (R.Registry.services registry.now) stream packet.now }
 {
-    let Some(fields) = split_head(packet) else {
-        return Err(Refusal::PacketTooShort);
-    };
+    let fields = split_head(packet).ok_or(Refusal::PacketTooShort)?;
     if fields.entries.len() < ENTRY_HEAD {
         return Err(Refusal::PacketTooShort);
     }
@@ -137,14 +119,13 @@ pub fn read_head<R: Registry>(
     if fields.version != VERSION {
         return Err(Refusal::Version);
     }
-    let Some(message_type) = MessageType::from_number(fields.message_type) else {
-        return Err(Refusal::MessageType);
-    };
-    if !has_type(stream, message_type) {
+    let message_type = MessageType::try_from(fields.message_type)?;
+    if stream.is_some_and(|stream| message_type != stream.message_type) {
         return Err(Refusal::MessageType);
     }
     let logged = message_type == MessageType::LoggingStream;
-    if logged && (fields.device_id > LAST_MODULE || !has_module(stream, fields.device_id)) {
+    let other_module = stream.is_some_and(|stream| fields.device_id != stream.module);
+    if logged && (fields.device_id > LAST_MODULE || other_module) {
         return Err(Refusal::Module);
     }
     if logged && fields.device_flags & WHOLE != WHOLE {
@@ -154,8 +135,6 @@ pub fn read_head<R: Registry>(
         message_type,
         data_type: fields.data_type,
     };
-    match registry.sharing(code) {
-        None => Err(Refusal::UnknownCode),
-        Some(shares) => Ok(fields.head(code, shares)),
-    }
+    let shares = registry.sharing(code).ok_or(Refusal::UnknownCode)?;
+    Ok(fields.head(code, shares))
 }

@@ -4,9 +4,10 @@ use comparison::packets::compare::compare_packets;
 use comparison::{Comparison, RefusedPacket};
 use kinds::STANDARD;
 use readable::EntryText;
-use records::{Code, MessageType, Registry};
+use records::{Code, MessageType, Numbered, Registry};
 use tecmp::reader::read_entry;
 
+// The first word of a line picks the case.
 pub fn answer(rt: &HostRuntime, line: &str) -> anyhow::Result<()> {
     println!(rt; "{line}")?;
     let words: Vec<&str> = line.split_whitespace().collect(rt.alloc())?;
@@ -47,13 +48,13 @@ fn read_code(kind: &str) -> anyhow::Result<Code> {
     let Some((number, data_type)) = kind.split_once('/') else {
         return Err(anyhow!("a kind is message type and data type"));
     };
-    match MessageType::from_number(number.parse::<u8>()?) {
-        Some(message_type) => Ok(Code {
-            message_type,
-            data_type: read_word(data_type),
-        }),
-        None => Err(anyhow!("no such message type")),
-    }
+    let message_type = MessageType::try_from(number.parse::<u8>()?).map_err(|_| anyhow!(
+        "no such message type"
+    ))?;
+    Ok(Code {
+        message_type,
+        data_type: read_word(data_type),
+    })
 }
 
 fn record_case(rt: &HostRuntime, kind: &str, flags: u16, data: &str) -> anyhow::Result<()> {

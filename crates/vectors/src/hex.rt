@@ -1,18 +1,14 @@
 // Bytes in hexadecimal: pieces joined by `,`, each may be repeated: `00*3,ff` is 00 00 00 ff; `-` is no bytes.
 use std::alloc::{AllocError, Global};
 
+// What is no digit counts as 0.
 fn digit(byte: u8) -> u8 {
-    match byte {
-        b'0'..=b'9' => byte - b'0',
-        b'a'..=b'f' => byte - b'a' + 10,
-        b'A'..=b'F' => byte - b'A' + 10,
-        _ => 0,
-    }
+    char::from(byte).to_digit(16).unwrap_or(0) as u8
 }
 
 fn push_piece(bytes: &mut Vec<u8>, text: &[u8]) -> Result<(), AllocError> {
-    for index in 0..text.len() / 2 {
-        bytes.push((digit(text[2 * index]) & 15) << 4 | digit(text[2 * index + 1]))?;
+    for pair in text.chunks_exact(2) {
+        bytes.push((digit(pair[0]) & 15) << 4 | digit(pair[1]))?;
     }
     Ok(())
 }
@@ -36,9 +32,6 @@ pub fn read_bytes(heap: Global, text: &str) -> Result<Vec<u8>, AllocError> {
 }
 
 pub fn read_word(text: &str) -> u16 {
-    let mut word: u16 = 0;
-    for byte in text.bytes() {
-        word = word << 4 | u16::from(digit(byte));
-    }
-    word
+    text.bytes()
+        .fold(0, |word, byte| word << 4 | u16::from(digit(byte)))
 }

@@ -1,48 +1,35 @@
 // The calls on a copy. The output is lent at each; a refused call leaves copy and output as they were.
-ghost use Rattle.std.specs.Prelude.{◌≡◌, length, Ok as Done};
+ghost use Rattle.std.specs.Prelude.{◌≡◌, ◌+◌, ◌≤◌, length, Ok as Done, IfOk};
 ghost use Rattle.records.specs.Codes.{type_of};
 ghost use Rattle.records.specs.Tests.{tested};
 ghost use Rattle.tecmp.specs.Views.{viewed};
 ghost use Rattle.canonical.specs.Calls.{stream_of, opened, addition, add_tests, Adds};
-ghost use Rattle.canonical.specs.Copies.{Opened, emptied, Measured, ClosedWith};
+ghost use Rattle.canonical.specs.States.{after};
+ghost use Rattle.canonical.specs.Copies.{Opened, emptied, ClosedWith};
 
 use super::CanonicalCopy;
-use crate::bytes::put_closing_word;
+use crate::bytes::{WordKind, put};
+use crate::entry::AcceptedEntry;
 use crate::state::{Closed, Extent, State, WORD};
-use crate::writer::{ENTRY_HEAD, canonical_length, enter, shares_packets};
 use records::code::{Code, MessageType};
+use records::kind::DATA_LIMIT;
 use records::refusal::{LookupRefusal, Refusal};
 use records::registry::Registry;
 use tecmp::entry::{EntryView, has_time, time_of};
-use tecmp::head::Stream;
+use tecmp::head::{LAST_MODULE, Stream};
 
 const LARGEST_OUTPUT: usize = 16_777_216;
 
-const LAST_MODULE: u16 = 255;
-
-// The most bytes of data that may be added.
-const DATA_LIMIT: usize = 1472;
-
-const NOTHING: Extent = Extent {
-    length: 0,
-    entries: 0,
-    packets: 0,
-    last: None,
-};
-
-// Logged copies are of a module up to 255, replay copies of module 0.
+// Logged copies are of a module up to 255, replay copies of module 0. Both are numbers, since others are refused.
 fn stream_of(direction: u8, module: u16) -> Option<Stream>
     ensures { result ≡ stream_of (type_of direction) «module» }
 {
-    let message_type = MessageType::from_number(direction)?;
+    let message_type = MessageType::try_from(direction).ok()?;
     let last = match message_type {
         MessageType::LoggingStream => LAST_MODULE,
         MessageType::ReplayData => 0,
     };
-    if module > last {
-        return None;
-    }
-    Some(Stream {
+    (module <= last).then_some(Stream {
         message_type,
         module,
     })
@@ -50,29 +37,32 @@ fn stream_of(direction: u8, module: u16) -> Option<Stream>
 
 impl<'r, R: Registry> CanonicalCopy<'r, R> {
     // Opens a copy of a direction (3 logged, 10 replay) and a module. Nothing is written.
+    // The direction is a number, since any other one is refused here.
     pub fn open(registry: &'r R, direction: u8, module: u16, out: &[u8]) -> Result<Self, Refusal>
         ensures { Opened registry.now (opened direction «module» (length out.now)) result }
     {
-        let Some(stream) = stream_of(direction, module) else {
-            return Err(Refusal::Opening);
-        };
+        let stream = stream_of(direction, module).ok_or(Refusal::Opening)?;
         let capacity = out.len();
-        if capacity < WORD || capacity > LARGEST_OUTPUT {
+        if !(WORD..=LARGEST_OUTPUT).contains(&capacity) {
             return Err(Refusal::OutputLength);
         }
-        let extent = NOTHING;
         let state = State {
             stream,
             capacity,
-            extent,
+            extent: Extent::default(),
         };
         Ok(CanonicalCopy { registry, state })
     }
 
-    // Tests an entry to be added, with an output of so many bytes; the length of its canonical data.
-    fn judge(&self, lent: usize, entry: EntryView) -> Result<usize, Refusal>
+    // Tests an entry to be added, with an output of so many bytes.
+    fn judge<'p>(
+        &self,
+        lent: usize,
+        entry: EntryView<'p>,
+    ) -> Result<AcceptedEntry<'r, 'p, R>, Refusal>
         ensures answer { emptied result ≡ tested (add_tests (R.Registry.services self.now.registry.now) self.now.state (viewed entry.entry) lent) (Done tt) }
-        ensures measured { Measured (R.Registry.services self.now.registry.now) self.now.state (viewed entry.entry) result }
+        ensures entry { IfOk result (λ accepted. (accepted.registry.now ≡ self.now.registry.now) × (viewed accepted.view ≡ viewed entry.entry)) }
+        ensures fits { IfOk result (λ accepted. (after (R.Registry.services self.now.registry.now) self.now.state.extent (viewed entry.entry)).length + 4 ≤ self.now.state.capacity) }
     {
         let offset = 0;
         let state = self.state;
@@ -88,21 +78,19 @@ impl<'r, R: Registry> CanonicalCopy<'r, R> {
         if !has_time(state.stream.message_type, entry.time) {
             return Err(Refusal::NoTime { offset });
         }
-        match self.registry.check(entry.code, entry.flags, entry.data) {
-            Err(LookupRefusal::UnknownCode) => return Err(Refusal::UnknownCode),
-            Err(LookupRefusal::Kind(_)) => return Err(Refusal::Record { offset }),
-            Ok(_) => (),
-        }
-        let count = canonical_length(self.registry, entry.code, entry.flags, entry.data);
-        let shares = shares_packets(self.registry, entry.code);
-        let next = state
-            .extent
-            .extend(shares, entry.code.data_type, ENTRY_HEAD + count);
+        let accepted = AcceptedEntry::check(self.registry, entry).map_err(
+            |refusal| match refusal {
+                LookupRefusal::UnknownCode => Refusal::UnknownCode,
+                LookupRefusal::Kind(_) => Refusal::Record { offset },
+            },
+        )?;
+        let next = state.extent.extend(&accepted);
         if next.length + WORD > state.capacity {
             return Err(Refusal::OutputFull);
         }
-        Ok(count)
+        Ok(accepted)
     }
+
     // Adds an entry in its canonical encoding: to the last packet where it may join it, else to a new one.
     pub fn add(
         &mut self,
@@ -129,36 +117,23 @@ impl<'r, R: Registry> CanonicalCopy<'r, R> {
             data,
             data_offset: 0,
         };
-        let count = match self.judge(out.len(), entry) {
-            Ok(count) => count,
-            Err(refusal) => return Err(refusal),
-        };
-        let extent = enter(self.registry, state, entry, count, out);
-        self.state.extent = extent;
+        let accepted = self.judge(out.len(), entry)?;
+        self.state.extent = accepted.enter(state, out);
         Ok(())
     }
+
     // Closes the copy: writes the closing word and uses the copy up. Refused, it hands the copy back.
     pub fn close(self, out: &mut [u8]) -> Result<Closed, (Refusal, Self)>
         ensures { ClosedWith (R.Registry.services self.entry.registry.now) self.entry out.old out.new result }
     {
-        if out.len() != self.state.capacity {
-            return Err((Refusal::OutputLength, self));
-        }
-        if self.state.extent.entries == 0 {
-            return Err((Refusal::NoEntries, self));
-        }
-        let CanonicalCopy { registry: _, state } = self;
-        let Extent {
-            length,
-            entries,
-            packets,
-            ..
-        } = state.extent;
-        put_closing_word(out, length, entries);
-        Ok(Closed {
-            bytes: length + WORD,
-            entries,
-            packets,
-        })
+        // Taken apart first: the checker doesn't cover handing a value with an extent inside back whole.
+        let CanonicalCopy { registry, state } = self;
+        let closed = match state.closed(out.len()) {
+            Ok(closed) => closed,
+            Err(refusal) => return Err((refusal, CanonicalCopy { registry, state })),
+        };
+        let extent = state.extent;
+        put(out, extent.length, &WordKind::Closing.word(extent.entries));
+        Ok(closed)
     }
 }

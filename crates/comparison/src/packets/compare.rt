@@ -1,21 +1,17 @@
-ghost use Rattle.std.specs.Prelude.{◌≡◌, true, is_ok, None};
-ghost use Rattle.tecmp.specs.Entries.{entries};
-ghost use Rattle.records.specs.Services.{checked_by};
 ghost use Rattle.tecmp.specs.Views.{viewed};
-ghost use Rattle.comparison.specs.Comparing.{Differs, Checked, Compared};
-ghost use Rattle.comparison.specs.Statements.{stated};
+ghost use Rattle.comparison.specs.Comparing.{Differs, Compared};
+ghost use Rattle.comparison.specs.Statements.{Accepted, stated};
 
 use super::{Comparison, Field, RefusedPacket};
 use crate::content::same_sense;
-use records::refusal::Refusal;
 use records::registry::Registry;
 use tecmp::entry::EntryView;
-use tecmp::reader::{FIRST_ENTRY, count_entries, read_entry};
+use tecmp::packet::Packet;
 
 // The first field in which two accepted entries differ.
 fn first_difference<R: Registry>(registry: &R, first: EntryView, second: EntryView) -> Option<Field>
-    requires first { is_ok (checked_by (R.Registry.services registry.now first.code) first.flags first.«data».now) ≡ true }
-    requires second { is_ok (checked_by (R.Registry.services registry.now second.code) second.flags second.«data».now) ≡ true }
+    requires first { Accepted (R.Registry.services registry.now) (viewed first) }
+    requires second { Accepted (R.Registry.services registry.now) (viewed second) }
     ensures { Differs (stated (R.Registry.services registry.now) (viewed first.entry)) (stated (R.Registry.services registry.now) (viewed second.entry)) result }
 {
     if first.code != second.code {
@@ -27,76 +23,10 @@ fn first_difference<R: Registry>(registry: &R, first: EntryView, second: EntryVi
     if first.time != second.time {
         return Some(Field::Time);
     }
-    if !same_sense(
-        registry,
-        first.code,
-        first.flags,
-        first.data,
-        second.flags,
-        second.data,
-    ) {
+    if !same_sense(registry, first, second) {
         return Some(Field::Content);
     }
     None
-}
-
-// Compares two packets that were read to their ends.
-fn compare_entries<R: Registry>(
-    registry: &R,
-    first: &[u8],
-    second: &[u8],
-) -> Result<Comparison, RefusedPacket>
-    requires first { is_ok (entries (R.Registry.services registry.now) None first.now) ≡ true }
-    requires second { is_ok (entries (R.Registry.services registry.now) None second.now) ≡ true }
-    ensures { Compared (R.Registry.services registry.now) first.now second.now result }
-{
-    let mut offset = FIRST_ENTRY;
-    let mut other_offset = FIRST_ENTRY;
-    let mut index = 0;
-    loop {
-        let one = match read_entry(registry, first, offset) {
-            Ok(read) => read,
-            Err(refusal) => return Err(RefusedPacket::First(refusal)),
-        };
-        let other = match read_entry(registry, second, other_offset) {
-            Ok(read) => read,
-            Err(refusal) => return Err(RefusedPacket::Second(refusal)),
-        };
-        match (one, other) {
-            (None, None) => return Ok(Comparison::Same { entries: index }),
-            (Some(one), Some(other)) => {
-                if let Some(field) = first_difference(registry, one.entry, other.entry) {
-                    return Ok(Comparison::Different {
-                        entry: index,
-                        field,
-                    });
-                }
-                offset = one.next;
-                other_offset = other.next;
-                index += 1;
-            }
-            (Some(_), None) => return Ok(ended(index)),
-            (None, Some(_)) => return Ok(ended(index)),
-        }
-    }
-}
-
-// One packet has ended, and the other has an entry more.
-fn ended(entry: usize) -> Comparison
-    ensures { result ≡ Comparison.Different entry Field.Presence }
-{
-    let field = Field::Presence;
-    Comparison::Different { entry, field }
-}
-
-// Reads a packet to its end.
-fn check_packet<R: Registry>(registry: &R, packet: &[u8]) -> Result<(), Refusal>
-    ensures { Checked (entries (R.Registry.services registry.now) None packet.now) result }
-{
-    match count_entries(registry, packet) {
-        Ok(_) => Ok(()),
-        Err(refusal) => Err(refusal),
-    }
 }
 
 // Whether two packets hold the same load. Each is read to its end first, so that a refusal comes before a difference.
@@ -107,11 +37,23 @@ pub fn compare_packets<R: Registry>(
 ) -> Result<Comparison, RefusedPacket>
     ensures { Compared (R.Registry.services registry.now) first.now second.now result }
 {
-    if let Err(refusal) = check_packet(registry, first) {
-        return Err(RefusedPacket::First(refusal));
+    let first = Packet::open(registry, None, first).map_err(RefusedPacket::First)?;
+    let count = first.count().map_err(RefusedPacket::First)?;
+    let second = Packet::open(registry, None, second).map_err(RefusedPacket::Second)?;
+    let other_count = second.count().map_err(RefusedPacket::Second)?;
+    // both are read to their ends by now, so no entry is refused here
+    for (entry, (one, other)) in first.entries().zip(second.entries()).enumerate() {
+        let one = one.map_err(RefusedPacket::First)?;
+        let other = other.map_err(RefusedPacket::Second)?;
+        if let Some(field) = first_difference(registry, one, other) {
+            return Ok(Comparison::Different { entry, field });
+        }
     }
-    if let Err(refusal) = check_packet(registry, second) {
-        return Err(RefusedPacket::Second(refusal));
+    if count != other_count {
+        return Ok(Comparison::Different {
+            entry: count.min(other_count),
+            field: Field::Presence,
+        });
     }
-    compare_entries(registry, first, second)
+    Ok(Comparison::Same { entries: count })
 }

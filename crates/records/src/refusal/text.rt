@@ -2,7 +2,7 @@
 ghost use Rattle.std.specs.Prelude.{◌≡◌, Some};
 ghost use Rattle.records.specs.Words.{meaning_of, text_of};
 
-use super::Refusal;
+use super::{Numbered, Refusal};
 use std::fmt;
 
 // The number, what it means, and the offset where there is one: `12 at offset 43: ..`.

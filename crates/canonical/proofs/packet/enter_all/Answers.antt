@@ -1,64 +1,63 @@
-use Rattle.std.proofs.Common.{ℕ, List, ap, ◌∙◌, ap₂, sym, refl, arith}
-use Rattle.tecmp.specs.Views.{read_as}
+use Rattle.std.proofs.Common.{◌≡◌, ℕ, List, true, is_ok, ap, ◌∙◌, ap₂, subst, sym, refl, arith}
+use Rattle.records.specs.Services.{checked_by}
+use Rattle.tecmp.specs.Steps.{left}
+use Rattle.tecmp.specs.Views.{viewed}
+use Rattle.tecmp.specs.declared.packet.Packet.{Packet}
+use Rattle.tecmp.proofs.Walks.{Stepped, step_ok}
 use Rattle.canonical.specs.Calls.{listed}
-use Rattle.canonical.specs.States.{after, after_all, put_all}
-use Rattle.canonical.specs.Surveys.{entries_after}
-use Rattle.canonical.specs.declared.state.Extent.{Extent}
+use Rattle.canonical.specs.States.{after, put, after_all, put_all}
+use Rattle.canonical.specs.Extents.{Extent}
 use Rattle.canonical.proofs.Growth.{grows_all}
-use Rattle.canonical.proofs.Walked.{listed_after, was_read, came, came_accepted}
+use Rattle.canonical.proofs.Walked.{listed_more}
+use Rattle.canonical.proofs.packet.enter_all.Given.{Over}
 use Rattle.canonical.proofs.packet.enter_all.Goals as goal
+use Rattle.canonical.proofs.packet.enter_all.Goals.{In-Some-Ok}
 
-pub canonical_length-count-requires : goal.canonical_length-count-requires
-canonical_length-count-requires g c =
-    let services = g.R.Registry.services c.args.registry.now in
-    let s = c.args.packet.now in
-    let was = was_read services c.args.head s c.loop-read.next c.in-Ok-Some.field-0 c.in-Ok-Some.read c.in-Ok-Some.ensures c.in-Ok-Some.field-0-is in
-    came_accepted services c.args.head s c.loop-read.next (read_as c.in-Ok-Some.read) was
+-- what was read
+step : (g : Over) (c : In-Some-Ok g) → Stepped g.R.Registry.services c.loop-view.entries (viewed c.in-Some-Ok.view) c.next.new.self
+step g c = step_ok g.R.Registry.services c.loop-view.entries c.in-Some-Ok.field-0 c.in-Some-Ok.view c.next.new.self c.in-Some-Ok.ensures.steps c.in-Some-Ok.field-0-is
 
-pub enter-state-requires-clause-counted : goal.enter-state-requires-clause-counted
-enter-state-requires-clause-counted g c =
-    let services = g.R.Registry.services c.args.registry.now in
-    let left = listed (entries_after services c.args.head c.args.packet.now c.loop-read.next) in
-    let grows = grows_all services c.loop-read.state.extent left c.loop-read.invariant.1.ends in
-    (c.loop-read.invariant.1, omega (arith, ap (λ x. x.length) c.loop-read.invariant.2))
+pub checked-entry-requires : goal.checked-entry-requires
+checked-entry-requires g c =
+    let e = viewed c.in-Some-Ok.view in
+    subst (λ (p : Packet _). is_ok (checked_by (g.R.Registry.services p.registry.now e.code) e.flags e.bytes) ≡ true) c.loop-view.invariant.4
+    (step g (goal.at.checked-entry-requires g c).In-Some-Ok).accepted
 
-pub loop-read-smaller : goal.loop-read-smaller
-loop-read-smaller g c =
-    let services = g.R.Registry.services c.args.registry.now in
-    let s = c.args.packet.now in
-    let was = was_read services c.args.head s c.loop-read.next c.in-Ok-Some.field-0 c.in-Ok-Some.read c.in-Ok-Some.ensures c.in-Ok-Some.field-0-is in
-    let i = came services c.args.head s c.loop-read.next (read_as c.in-Ok-Some.read) was in
-    omega (arith, i.ahead, i.within)
+pub enter-extent-requires-clause-fits : goal.enter-extent-requires-clause-fits
+enter-extent-requires-clause-fits g c =
+    let all = g.R.Registry.services in
+    let services = all c.args.packet.now.registry.now in
+    let x : Extent = c.loop-view.extent in
+    let e = viewed c.in-Some-Ok.view in
+    let rest = left all c.next.new.self in
+    let i = step g (goal.at.enter-extent-requires-clause-fits g c).In-Some-Ok in
+    let one = listed_more e (left all c.loop-view.entries) rest i.rest c.loop-view.invariant.0 in
+    let grows = grows_all services (after services x e) (listed rest) refl in
+    let reach = c.loop-view.invariant.2 ∙ ap (after_all services x) one.1 in
+    let same = ap₂ {C = Extent} (λ registry e. after (all registry) x e) c.checked-entry.ensures.registry c.checked-entry.ensures.view in
+    omega (arith, grows, ap (λ (y : Extent). y.length) reach, ap (λ (y : Extent). y.length) same)
 
-pub enter-state-requires-clause-fits : goal.enter-state-requires-clause-fits
-enter-state-requires-clause-fits g c =
-    let services = g.R.Registry.services c.args.registry.now in
-    let head = c.args.head in
-    let s = c.args.packet.now in
-    let x : Extent = c.loop-read.state.extent in
-    let f = read_as c.in-Ok-Some.read in
-    let was = was_read services head s c.loop-read.next c.in-Ok-Some.field-0 c.in-Ok-Some.read c.in-Ok-Some.ensures c.in-Ok-Some.field-0-is in
-    let more = (listed_after services head s c.loop-read.next f was c.loop-read.invariant.0).1 in
-    let grows = grows_all services (after services x f.entry) (listed (entries_after services head s f.next)) refl in
-    let all = c.loop-read.invariant.2 ∙ ap (after_all services x) more in
-    omega (arith, grows, ap (λ (y : Extent). y.length) all)
-
-pub loop-read-preserved : goal.loop-read-preserved
-loop-read-preserved g c =
-    let services = g.R.Registry.services c.args.registry.now in
-    let head = c.args.head in
-    let s = c.args.packet.now in
-    let stream = c.loop-read.state.stream in
-    let x : Extent = c.loop-read.state.extent in
-    let out = c.loop-read.out in
-    let f = read_as c.in-Ok-Some.read in
-    let was = was_read services head s c.loop-read.next c.in-Ok-Some.field-0 c.in-Ok-Some.read c.in-Ok-Some.ensures c.in-Ok-Some.field-0-is in
-    let after_it = listed_after services head s c.loop-read.next f was c.loop-read.invariant.0 in
-    let rest = listed (entries_after services head s f.next) in (
-      after_it.0,
-      c.enter-state.ensures.counted,
-      c.loop-read.invariant.2 ∙ ap (after_all services x) after_it.1 ∙ ap (λ y. after_all services y rest) (sym c.enter-state.ensures.extent),
-      c.loop-read.invariant.3 ∙ ap (λ es. put_all services stream x es out) after_it.1
-          ∙ ap₂ {C = List ℕ} (λ y o. put_all services stream y rest o) (sym c.enter-state.ensures.extent) (sym c.enter-state.ensures.output),
-      c.loop-read.invariant.4,
+pub loop-view-preserved : goal.loop-view-preserved
+loop-view-preserved g c =
+    let all = g.R.Registry.services in
+    let services = all c.args.packet.now.registry.now in
+    let stream = c.args.state.stream in
+    let x : Extent = c.loop-view.extent in
+    let out = c.loop-view.out in
+    let e = viewed c.in-Some-Ok.view in
+    let rest = left all c.next.new.self in
+    let i = step g (goal.at.loop-view-preserved g c).In-Some-Ok in
+    let one = listed_more e (left all c.loop-view.entries) rest i.rest c.loop-view.invariant.0 in
+    let grows = grows_all services (after services x e) (listed rest) refl in
+    let reach = c.loop-view.invariant.2 ∙ ap (after_all services x) one.1 in
+    let extent = c.enter-extent.ensures.extent
+    ∙ ap₂ {C = Extent} (λ registry e. after (all registry) x e) c.checked-entry.ensures.registry c.checked-entry.ensures.view in
+    let output = c.enter-extent.ensures.output
+    ∙ ap₂ {C = List ℕ} (λ registry e. put (all registry) stream x e out) c.checked-entry.ensures.registry c.checked-entry.ensures.view in (
+      one.0,
+      omega (arith, grows, ap (λ (y : Extent). y.length) extent, ap (λ (y : Extent). y.length) reach),
+      reach ∙ ap (λ y. after_all services y (listed rest)) (sym extent),
+      c.loop-view.invariant.3 ∙ ap (λ es. put_all services stream x es out) one.1
+          ∙ ap₂ {C = List ℕ} (λ y o. put_all services stream y (listed rest) o) (sym extent) (sym output),
+      i.packet ∙ c.loop-view.invariant.4,
     )

@@ -2,7 +2,7 @@ use Rattle.std.proofs.Common.{length, ap, ◌∙◌}
 use lib.Bits.{bit_and}
 use Rattle.records.proofs.Codecs.{accepted, encodes}
 use Rattle.frames.specs.Frames.{codec, flags_read, framed_on, bytes_of}
-use Rattle.frames.proofs.Law.{sound, size}
+use Rattle.frames.specs.Law.{sound, size}
 use Rattle.frames.proofs.record.write_canonical.Goals as goal
 
 pub write_read-requires : goal.write_read-requires

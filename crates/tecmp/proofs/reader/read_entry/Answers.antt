@@ -1,11 +1,16 @@
 use Rattle.std.proofs.Common.{◌∙◌}
-use Rattle.tecmp.specs.declared.head.Head.{Head}
+use Rattle.std.proofs.lemmas.Result.{err_from_is_err_and}
 use Rattle.tecmp.specs.Reading.{inside_by}
-use Rattle.tecmp.proofs.Walks.{by_head}
+use Rattle.tecmp.proofs.Walks.{by_packet, no_head}
 use Rattle.tecmp.proofs.reader.read_entry.Goals as goal
 
-pub returns-in-Ok : goal.returns-in-Ok
-returns-in-Ok g c =
-    let services = g.R.Registry.services c.args.registry.now in
-    let packet = c.args.packet.now in
-    c.read_inside.ensures ∙ by_head services packet (λ (head : Head). inside_by (services head.code) head.shares head.code packet c.args.offset) c.in-Ok.head c.in-Ok.ensures
+pub returns : goal.returns
+returns g c =
+    let opened = c.in_ok-open in
+    c.read.ensures
+    ∙ by_packet g.R.Registry.services c.args.registry.now c.args.packet.now (λ services head packet. inside_by (services head.code) head.shares head.code packet c.args.offset) opened.field-0 opened.ensures.head opened.ensures.of
+
+pub returns-in_err-open : goal.returns-in_err-open
+returns-in_err-open g c =
+    let p = err_from_is_err_and c.from_residual.result c.from_residual.ensures.1 in
+    rw (p.1, p.2) (no_head (g.R.Registry.services c.args.registry.now) c.args.packet.now _ c.in_err-open.field-0.0 c.in_err-open.ensures.head)
