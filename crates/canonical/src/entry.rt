@@ -52,7 +52,7 @@ impl<'r, 'p, R: Registry> AcceptedEntry<'r, 'p, R> {
         })
     }
 
-    // An entry that was checked before.
+    // An entry that was checked before: what an iterator over a packet gives is accepted, but its type does not say so.
     pub(crate) fn checked(registry: &'r R, view: EntryView<'p>) -> Self
         requires { is_ok (checked_by (R.Registry.services registry.now view.code) view.flags view.«data».now) ≡ true }
         ensures registry { result.registry.now ≡ registry.now }

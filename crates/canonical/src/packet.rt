@@ -1,6 +1,6 @@
 // The entries of a whole packet: how far the copy would reach with them, and writing them.
 ghost use Rattle.std.specs.Prelude.{◌≡◌, ◌≤◌, true, length, is_ok};
-ghost use Rattle.tecmp.specs.Packets.{entries_in};
+ghost use Rattle.tecmp.specs.Packets.{packet_entries};
 ghost use Rattle.canonical.specs.Calls.{listed};
 ghost use Rattle.canonical.specs.States.{after_all, put_all};
 ghost use Rattle.canonical.specs.Surveys.{surveyed};
@@ -17,7 +17,7 @@ pub(crate) fn survey<R: Registry>(
     extent: Extent,
 ) -> Result<Extent, Refusal>
     requires { (extent.length ≤ 16777216) × (length packet.now.bytes.now ≤ 1500) }
-    ensures { result ≡ surveyed (R.Registry.services packet.now.registry.now) extent (entries_in R.Registry.services packet.now 12) }
+    ensures { result ≡ surveyed (R.Registry.services packet.now.registry.now) extent (packet_entries R.Registry.services packet.now 12) }
 {
     let mut reached = extent;
     for entry in packet.entries() {
@@ -33,13 +33,14 @@ pub(crate) fn enter_all<R: Registry>(
     state: State,
     out: &mut [u8],
 ) -> Extent
-    requires read { is_ok (entries_in R.Registry.services packet.now 12) ≡ true }
+    requires read { is_ok (packet_entries R.Registry.services packet.now 12) ≡ true }
     requires bounded { (state.extent.length ≤ 16777216) × (length out.old ≤ 16777216) }
-    requires fits { (after_all (R.Registry.services packet.now.registry.now) state.extent (listed (entries_in R.Registry.services packet.now 12))).length ≤ length out.old }
-    ensures extent { result ≡ after_all (R.Registry.services packet.now.registry.now) state.extent (listed (entries_in R.Registry.services packet.now 12)) }
-    ensures output { out.new ≡ put_all (R.Registry.services packet.now.registry.now) state.stream state.extent (listed (entries_in R.Registry.services packet.now 12)) out.old }
+    requires fits { (after_all (R.Registry.services packet.now.registry.now) state.extent (listed (packet_entries R.Registry.services packet.now 12))).length ≤ length out.old }
+    ensures extent { result ≡ after_all (R.Registry.services packet.now.registry.now) state.extent (listed (packet_entries R.Registry.services packet.now 12)) }
+    ensures output { out.new ≡ put_all (R.Registry.services packet.now.registry.now) state.stream state.extent (listed (packet_entries R.Registry.services packet.now 12)) out.old }
 {
     let mut extent = state.extent;
+    // A `for` would need a `let .. else` that breaks at a refusal, of which this packet has none: it is no plainer.
     let mut entries = packet.entries();
     while let Some(Ok(view)) = entries.next() {
         let entry = AcceptedEntry::checked(packet.registry, view);

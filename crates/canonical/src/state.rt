@@ -15,8 +15,8 @@ use tecmp::packet::FIRST_ENTRY;
 // The bytes of a packet's word.
 pub(crate) const WORD: usize = 4;
 
-// Places in the output, not slices of it: it is lent at each call.
 // The last packet, which entries may still join: where its word stands, its bytes so far, its data type.
+// Places in the output here and in `Extent` are numbers, not slices, since the output is lent at each call.
 #[derive(Clone, Copy)]
 pub struct OpenPacket {
     pub begins: usize,
@@ -64,7 +64,7 @@ pub struct Closed {
 }
 
 impl OpenPacket {
-    // Whether an entry joins it: the code is the same, shares, and the packet stays within the limit.
+    // Whether an entry joins it: the code is the same, shares, and the packet stays within the limit. In a copy the sum never saturates; written so, `takes` need not ask that the packet is small.
     fn takes<R: Registry>(self, entry: &AcceptedEntry<'_, '_, R>) -> bool
         ensures { result ≡ takes_entry (R.Registry.services entry.now.registry.now) self (viewed entry.now.view) }
     {

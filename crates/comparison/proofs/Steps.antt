@@ -8,7 +8,7 @@ use Rattle.std.specs.Prelude.{min}
 use Rattle.records.specs.Services.{Services}
 use Rattle.records.specs.declared.refusal.Refusal.{Refusal}
 use Rattle.tecmp.specs.Entries.{Entries, before, onward, entries, entries_by, counted}
-use Rattle.tecmp.specs.Packets.{head_in, entries_in}
+use Rattle.tecmp.specs.Packets.{head_in, packet_entries}
 use Rattle.tecmp.specs.Reading.{Entry, Answer, head_reading}
 use Rattle.tecmp.specs.Steps.{Steps, steps_left, read_from, entries_left, left}
 use Rattle.tecmp.specs.Views.{viewed}
@@ -73,7 +73,7 @@ module _ (m : Services) where
 pub record Whole {R : Type 0} (services : R → Services) (registry : R) (s : List ℕ) (packet : Packet R) (k : ℕ) : Type 0 where
   pub by : packet.registry.now ≡ registry
   pub size : length packet.bytes.now ≡ length s
-  pub same : entries_in services packet 12 ≡ entries (services registry) None s
+  pub same : packet_entries services packet 12 ≡ entries (services registry) None s
   pub ok : is_ok (entries (services registry) None s) ≡ true
   pub count : length (statements (services registry) s) ≡ k
 
@@ -101,18 +101,18 @@ module _ {R : Type 0} (services : R → Services) (registry : R) (s : List ℕ) 
       let i = mapped_err Q r q d m e in
       (i.0, i.2, sym (no_head (services registry) s _ i.0 (ap head_in (sym i.1) ∙ head)))
 
-  opened : (packet : Packet R) → q ≡ Ok packet → (packet.registry.now ≡ registry) × (packet.bytes.now ≡ s) × (entries_in services packet 12 ≡ entries (services registry) None s)
+  opened : (packet : Packet R) → q ≡ Ok packet → (packet.registry.now ≡ registry) × (packet.bytes.now ≡ s) × (packet_entries services packet 12 ≡ entries (services registry) None s)
   opened packet e =
       let i = mapped_ok Q r q packet m e in
       let same = IfOk-at_ok (λ p. (p.registry.now ≡ registry) × (p.bytes.now ≡ s)) i of in
       (same.0, same.1, by_packet services registry s (λ m head bytes. entries_by (m head.code) head.shares head.code bytes 12) packet (ap head_in (sym i) ∙ head) same)
 
   module _ (packet : Packet R) (e : q ≡ Ok packet) (P : Refusal → RefusedPacket → Type 0) (t : Result ℕ Refusal) (u : Result ℕ RefusedPacket)
-      (count : t ≡ counted 0 (entries_in services packet 12)) (n : Mapped P t u) where
+      (count : t ≡ counted 0 (packet_entries services packet 12)) (n : Mapped P t u) where
     pub not_counted : (d : RefusedPacket) → u ≡ Err d → (w : Refusal) × P w d × (entries (services registry) None s ≡ Err w)
     not_counted d f =
         let i = mapped_err P t u d n f in
-        (i.0, i.2, sym (opened packet e).2 ∙ counted_err 0 (entries_in services packet 12) i.0 (sym i.1 ∙ count))
+        (i.0, i.2, sym (opened packet e).2 ∙ counted_err 0 (packet_entries services packet 12) i.0 (sym i.1 ∙ count))
 
     pub whole : (k : ℕ) → u ≡ Ok k → Whole services registry s packet k
     whole k f =
@@ -135,12 +135,12 @@ pub record Next {R : Type 0} (services : R → Services) (registry : R) (all don
 
 module _ {R : Type 0} (services : R → Services) (registry : R) where
   -- what is left is what is read next, and then what comes after it
-  left_onward : (packet : Packet R) (from : Option ℕ) → entries_left services packet from ≡ onward (read_from services packet from) (entries_in services packet)
+  left_onward : (packet : Packet R) (from : Option ℕ) → entries_left services packet from ≡ onward (read_from services packet from) (packet_entries services packet)
   left_onward packet None = refl
   left_onward packet (Some at) = entries_on (services packet.registry.now packet.head.code) packet.head.shares packet.head.code packet.bytes.now at
 
-  left_by : (s : PacketEntries R) (a : Answer) → read_from services s.packet s.next ≡ a → left services s ≡ onward a (entries_in services s.packet)
-  left_by s a e = left_onward s.packet s.next ∙ ap (λ b. onward b (entries_in services s.packet)) e
+  left_by : (s : PacketEntries R) (a : Answer) → read_from services s.packet s.next ≡ a → left services s ≡ onward a (packet_entries services s.packet)
+  left_by s a e = left_onward s.packet s.next ∙ ap (λ b. onward b (packet_entries services s.packet)) e
 
   module _ (all done : List Statement) (s t : PacketEntries R) (so_far : Left services registry all done s) where
     ended : Steps services s None t → listed (services registry) (left services s) ≡ []

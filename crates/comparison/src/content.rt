@@ -39,7 +39,8 @@ fn data_is_bytes(data: &[u8])
     ensures { Bytes «data».now }
 {}
 
-// Whether two accepted records of one code say the same.
+// Whether two accepted records of one code say the same. That they are accepted is a clause here and in
+// `first_difference`, not a type: the iterator that gives the entries would have to carry it, and the registry in it, through every step.
 pub(crate) fn same_sense<R: Registry>(registry: &R, first: EntryView, second: EntryView) -> bool
     requires one_code { first.code ≡ second.code }
     requires first { Accepted (R.Registry.services registry.now) (viewed first) }

@@ -6,6 +6,7 @@ ghost use Rattle.frames.specs.Frames.{Shape, Shapely};
 use records::RecordRefusal;
 
 // Each method takes those of flags, payload length, header and trailer that it reads.
+// That both lengths are at most 8 is a clause of each: a type with the bound would be turned back into a number at every use.
 pub trait Frame {
     ghost shape: { Self → Shape };
 

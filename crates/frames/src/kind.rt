@@ -32,9 +32,7 @@ pub trait FrameKind {
 
 // The record kind of such frames.
 #[derive(Clone, Copy)]
-pub struct Framed<K> {
-    pub kind: K,
-}
+pub struct Framed<K>(pub K);
 
 impl<K: FrameKind> RecordKind for Framed<K> {
     const MESSAGE_TYPE: MessageType = K::MESSAGE_TYPE;

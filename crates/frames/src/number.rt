@@ -2,7 +2,7 @@
 ghost use Rattle.std.specs.Prelude.{◌≡◌, ◌≤◌, length};
 ghost use Rattle.records.specs.BigEndian.{big, low};
 
-// Whole words, as a rule of the project: the numbers' own methods read and write them.
+// The bytes of a whole word: as a rule of the project the numbers' own methods read and write them. The bound is a clause of both functions, since no slice has it by its type.
 const WIDEST: usize = 8;
 
 pub(crate) fn read_number(bytes: &[u8]) -> u64

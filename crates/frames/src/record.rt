@@ -9,7 +9,7 @@ use crate::frame::Frame;
 use crate::number::{read_number, write_number};
 use records::{RecordRefusal, WriteRefusal};
 
-// Frame, flags and data stay three parameters, and `Sized` a clause over two of them: each is read by itself in every clause.
+// Frame, flags and data stay three parameters, and what is of two of them (`Sized`, the part's length, the verdict written out) a clause: each is read by itself in every clause.
 
 // The lengths of the data: shorter than without payload, a payload length that is not allowed, any other wrong length.
 fn check_size<F: Frame>(frame: &F, flags: u16, data: &[u8]) -> Result<u8, RecordRefusal>
@@ -34,7 +34,7 @@ fn check_size<F: Frame>(frame: &F, flags: u16, data: &[u8]) -> Result<u8, Record
     Ok(count)
 }
 
-// Header and trailer as read: 0 in an entry that carries no frame.
+// Header and trailer as read: 0, as a rule of the format, in an entry that carries no frame.
 fn read_fields<F: Frame>(frame: &F, flags: u16, data: &[u8]) -> (u64, u64)
     requires { Sized (F.Frame.shape frame.now) «data».now }
     ensures head { result.0 ≡ head_read (F.Frame.shape frame.now) flags «data».now }
@@ -94,7 +94,7 @@ pub fn write_frame<F: Frame>(
     ensures answer { result ≡ written (verdict_of (codec (F.Frame.shape frame.now)) flags «data».now) (length part.old) }
     ensures part { Filled result (canonical_data (verdict_of (codec (F.Frame.shape frame.now)) flags «data».now)) part.old part.new }
 {
-    // In each family of kinds: a shared `write` would have to ask of the last call that the record is accepted, and public calls ask nothing.
+    // Each family of kinds has these lines: a shared `write` would ask of its last call that the record is accepted, and public calls ask nothing.
     if check_frame(frame, flags, data)? != part.len() {
         return Err(WriteRefusal::PartLength);
     }

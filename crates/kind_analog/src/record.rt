@@ -22,7 +22,7 @@ pub(crate) fn write_analog(flags: u16, data: &[u8], part: &mut [u8]) -> Result<u
     ensures answer { result ≡ written (verdict_of codec flags «data».now) (length part.old) }
     ensures part { Filled result (canonical_data (verdict_of codec flags «data».now)) part.old part.new }
 {
-    // In each family of kinds: a shared `write` would have to ask of the last call that the record is accepted, and public calls ask nothing.
+    // Each family of kinds has these lines: a shared `write` would ask of its last call that the record is accepted, and public calls ask nothing.
     if check_analog(flags, data)? != part.len() {
         return Err(WriteRefusal::PartLength);
     }
@@ -30,6 +30,7 @@ pub(crate) fn write_analog(flags: u16, data: &[u8], part: &mut [u8]) -> Result<u
 }
 
 // Writes the canonical data of an accepted record, and answers its canonical flags. This call cannot refuse.
+// What is of two parameters (the part's length, the verdict written out) is a clause: each is read by itself in every clause.
 fn write_canonical(flags: u16, data: &[u8], part: &mut [u8]) -> u16
     requires { checked (verdict_of codec flags «data».now) ≡ Ok (length part.old) }
     ensures answer { result ≡ canonical_flags (verdict_of codec flags «data».now) }

@@ -93,7 +93,7 @@ impl<'d> Samples<'d> {
     fn all_multiples(&self, of: Factor) -> bool
         ensures { result ≡ all_multiples (step_of of) (values_in self.now) }
     {
-        // An index, as a rule of the project: each sample is folded at its place.
+        // A loop with an index, which samples have as a rule of the project.
         for i in 0..self.count() {
             if !is_multiple(self.value_at(i), of) {
                 return false;

@@ -137,6 +137,7 @@ impl TryFrom<u16> for SamplePeriod {
 }
 
 impl SamplePeriod {
+    // A property, not the number, so no `From`.
     pub fn microseconds(self) -> u32
         ensures { result ≡ period_microseconds self }
     {

@@ -14,7 +14,7 @@ use Rattle.kind_bytes.specs.declared.content.Content.{Content}
 use Rattle.kind_bytes.specs.declared.content.Content.TheVariants.{Uart, Ethernet}
 use Rattle.kind_bytes.specs.declared.content.SymbolWidth.{SymbolWidth}
 use Rattle.kind_bytes.specs.declared.content.SymbolWidth.TheVariants.{Seven, Eight}
-use Rattle.kind_bytes.specs.Layouts.{Layout, Proper, byte_as, flags_read, data_read, tests_on, codec, layout_of}
+use Rattle.kind_bytes.specs.Layouts.{Layout, Proper, byte_as, flags_read, data_read, tests_on, codec, layout_of, uart, ethernet}
 
 byte_again : (w : Option SymbolWidth) (b : ℕ) → byte_as w (byte_as w b) ≡ byte_as w b
 byte_again (Some Seven) b = kept_again 0x7F b
@@ -75,3 +75,9 @@ sound c = layout_sound (layout_of c) (proper c)
 
 pub bytes_lawful : (c : Content) → Lawful (verdict_of (codec (layout_of c)))
 bytes_lawful c = lawful (codec (layout_of c)) (sound c)
+
+pub uart_lawful : Lawful (verdict_of (codec uart))
+uart_lawful = bytes_lawful Uart
+
+pub ethernet_lawful : Lawful (verdict_of (codec ethernet))
+ethernet_lawful = bytes_lawful Ethernet

@@ -11,7 +11,7 @@ use crate::content::Content;
 use crate::record::{check_bytes, write_bytes};
 use records::{MessageType, RecordKind, RecordRefusal, WriteRefusal};
 
-// What a kind of plain bytes states of itself: its data type and its content. All are logged, and share packets.
+// What a kind of plain bytes states of itself: its data type and its content. All are logged, and share packets. `Content` can be named only in this crate, so all such kinds stand here.
 pub trait BytesKind {
     const DATA_TYPE: u16;
 
@@ -24,9 +24,7 @@ pub trait BytesKind {
 
 // The record kind of such bytes.
 #[derive(Clone, Copy)]
-pub struct PlainBytes<K> {
-    pub kind: K,
-}
+pub struct PlainBytes<K>(pub K);
 
 impl<K: BytesKind> RecordKind for PlainBytes<K> {
     const MESSAGE_TYPE: MessageType = MessageType::LoggingStream;

@@ -7,6 +7,8 @@ ghost use Rattle.kind_bytes.specs.Layouts.{codec, layout_of, low7};
 use crate::content::{Content, SymbolWidth};
 use records::{RecordRefusal, WriteRefusal};
 
+// Content, flags and data stay three parameters, and what is of two of them (the part's length, the verdict written out) a clause: each is read by itself in every clause.
+
 // The length of the canonical data, or the refusal.
 pub(crate) fn check_bytes(content: Content, flags: u16, data: &[u8]) -> Result<usize, RecordRefusal>
     ensures { result ≡ checked (verdict_of (codec (layout_of content)) flags «data».now) }
@@ -30,7 +32,7 @@ pub(crate) fn write_bytes(
     ensures answer { result ≡ written (verdict_of (codec (layout_of content)) flags «data».now) (length part.old) }
     ensures part { Filled result (canonical_data (verdict_of (codec (layout_of content)) flags «data».now)) part.old part.new }
 {
-    // In each family of kinds: a shared `write` would have to ask of the last call that the record is accepted, and public calls ask nothing.
+    // Each family of kinds has these lines: a shared `write` would ask of its last call that the record is accepted, and public calls ask nothing.
     if check_bytes(content, flags, data)? != part.len() {
         return Err(WriteRefusal::PartLength);
     }

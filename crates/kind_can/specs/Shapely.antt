@@ -1,4 +1,4 @@
--- CAN frames are shapely. Assumes nothing.
+-- CAN frames are shapely, so their kinds are lawful. Assumes nothing.
 use Rattle.std.specs.Prelude.{◌≡◌, ℕ, ◌^◌, ◌<◌, ◌≤◌, Bool, true, false, cond, refl}
 use Rattle.std.proofs.Math.Nat.{mod-mod, mod-le}
 use Rattle.std.proofs.Common.{arith}
@@ -6,8 +6,11 @@ use Rattle.std.proofs.lemmas.Nat.{and_le_r}
 use Rattle.std.proofs.lemmas.Bool.Decides.{nat_tests}
 use Rattle.records.specs.declared.code.MessageType.{MessageType}
 use Rattle.records.specs.declared.code.MessageType.TheVariants.{LoggingStream, ReplayData}
+use Rattle.records.specs.Codecs.{verdict_of}
+use Rattle.records.specs.Verdicts.{Lawful}
 use Rattle.records.proofs.Masks.{kept_again, used_again}
-use Rattle.frames.specs.Frames.{Shapely}
+use Rattle.frames.specs.Frames.{Shapely, codec}
+use Rattle.frames.specs.Law.{frame_lawful}
 use Rattle.records.specs.Flags.{flag}
 use Rattle.kind_can.specs.declared.frame.Protocol.{Protocol}
 use Rattle.kind_can.specs.declared.frame.Protocol.TheVariants.{Classic, Fd}
@@ -54,3 +57,6 @@ can_shapely k = record {
   head_apart = λ x y e. cc;
   tail_apart = λ x y e. cc;
 }
+
+pub can_lawful : (k : CanFrame) → Lawful (verdict_of (codec (can_shape k)))
+can_lawful k = frame_lawful (can_shape k) (can_shapely k)

@@ -72,7 +72,7 @@ impl Frame for FlexRayFrame {
 
     fn tail_as(&self, flags: u16, _count: u8, tail: u64) -> u64 {
         match self.direction {
-            MessageType::ReplayData if !bit(flags, USE_HEADER_CRC) => split(tail).0 << 16,
+            MessageType::ReplayData if !bit(flags, USE_HEADER_CRC) => first_byte(tail) << 16,
             _ => tail,
         }
     }
@@ -87,7 +87,7 @@ impl Frame for FlexRayFrame {
         match self.direction {
             MessageType::ReplayData if !is_setting(flags, tail) => Err(RecordRefusal::Setting),
             _ if !is_slot(head) => Err(RecordRefusal::Slot),
-            MessageType::ReplayData if split(tail).1 > LAST_HEADER_CRC => {
+            MessageType::ReplayData if last_two(tail) > LAST_HEADER_CRC => {
                 Err(RecordRefusal::Checksum)
             }
             _ => Ok(()),
@@ -95,26 +95,31 @@ impl Frame for FlexRayFrame {
     }
 }
 
-// The first byte and the last two of a number: cycle and frame ID of a header, repetition and header CRC of a replay trailer.
-fn split(number: u64) -> (u64, u64)
-    ensures first { result.0 ≡ number / 2 ^ 16 }
-    ensures last { result.1 ≡ number % 2 ^ 16 }
+// The cycle of a header, the repetition of a replay trailer.
+fn first_byte(number: u64) -> u64
+    ensures { result ≡ number / 2 ^ 16 }
 {
-    (number >> 16, number % (1 << 16))
+    number >> 16
+}
+
+// The frame ID of a header, the header CRC of a replay trailer.
+fn last_two(number: u64) -> u64
+    ensures { result ≡ number % 2 ^ 16 }
+{
+    number % (1 << 16)
 }
 
 fn is_slot(head: u64) -> bool
     ensures { result ≡ slot head }
 {
-    let (cycle, frame_id) = split(head);
-    cycle <= LAST_CYCLE && matches!(frame_id, 1..=LAST_FRAME_ID)
+    first_byte(head) <= LAST_CYCLE && matches!(last_two(head), 1..=LAST_FRAME_ID)
 }
 
 // The transmission mode, bits 7 to 9, is one of three; the repetition is a power of two.
 fn is_setting(flags: u16, tail: u64) -> bool
     ensures { result ≡ setting flags tail }
 {
-    let (repetition, _) = split(tail);
+    let repetition = first_byte(tail);
     matches!(field(flags, 7, 3), 1..=3)
         && repetition <= LAST_REPETITION
         && repetition.count_ones() == 1

@@ -38,20 +38,18 @@ pub const STANDARD: Standard = Chain {
         left: Chain {
             left: Chain {
                 left: Single {
-                    kind: Framed { kind: LoggedCan },
+                    kind: Framed(LoggedCan),
                 },
                 right: Single {
-                    kind: Framed { kind: LoggedCanFd },
+                    kind: Framed(LoggedCanFd),
                 },
             },
             right: Chain {
                 left: Single {
-                    kind: Framed { kind: LoggedLin },
+                    kind: Framed(LoggedLin),
                 },
                 right: Single {
-                    kind: Framed {
-                        kind: LoggedFlexRay,
-                    },
+                    kind: Framed(LoggedFlexRay),
                 },
             },
         },
@@ -59,12 +57,10 @@ pub const STANDARD: Standard = Chain {
             left: Single { kind: Analog },
             right: Chain {
                 left: Single {
-                    kind: PlainBytes { kind: LoggedUart },
+                    kind: PlainBytes(LoggedUart),
                 },
                 right: Single {
-                    kind: PlainBytes {
-                        kind: LoggedEthernet,
-                    },
+                    kind: PlainBytes(LoggedEthernet),
                 },
             },
         },
@@ -72,20 +68,18 @@ pub const STANDARD: Standard = Chain {
     right: Chain {
         left: Chain {
             left: Single {
-                kind: Framed { kind: ReplayCan },
+                kind: Framed(ReplayCan),
             },
             right: Single {
-                kind: Framed { kind: ReplayCanFd },
+                kind: Framed(ReplayCanFd),
             },
         },
         right: Chain {
             left: Single {
-                kind: Framed { kind: ReplayLin },
+                kind: Framed(ReplayLin),
             },
             right: Single {
-                kind: Framed {
-                    kind: ReplayFlexRay,
-                },
+                kind: Framed(ReplayFlexRay),
             },
         },
     },

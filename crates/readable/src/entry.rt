@@ -45,8 +45,8 @@ fn write_content<W: fmt::Write, R: Registry>(
     let Some(part) = buffer.get_mut(..length) else {
         return Ok(());
     };
-    match registry.write(entry.code, entry.flags, entry.data, part) {
-        Ok(flags) => write_record(f, entry.code, flags, part),
-        Err(_) => Ok(()),
-    }
+    let Ok(flags) = registry.write(entry.code, entry.flags, entry.data, part) else {
+        return Ok(());
+    };
+    write_record(f, entry.code, flags, part)
 }

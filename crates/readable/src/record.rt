@@ -132,10 +132,10 @@ fn write_ethernet<W: fmt::Write>(f: &mut fmt::Formatter<W>, data: &[u8]) -> fmt:
 }
 
 fn write_analog<W: fmt::Write>(f: &mut fmt::Formatter<W>, flags: u16, data: &[u8]) -> fmt::Result {
-    match read_analog(flags, data) {
-        Ok(reading) => write_reading(f, reading),
-        Err(_) => Ok(()),
-    }
+    let Ok(reading) = read_analog(flags, data) else {
+        return Ok(());
+    };
+    write_reading(f, reading)
 }
 
 fn write_reading<W: fmt::Write>(f: &mut fmt::Formatter<W>, reading: AnalogReading) -> fmt::Result {

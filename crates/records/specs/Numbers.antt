@@ -1,5 +1,5 @@
 -- The number and the offset of each refusal.
-use Rattle.std.specs.Prelude.{ℕ}
+use Rattle.std.specs.Prelude.{◌≡◌, ℕ}
 use Rattle.records.specs.declared.refusal.Refusal.{Refusal}
 use Rattle.records.specs.declared.refusal.Refusal.TheVariants.{PacketTooShort, TooLong, Version, MessageType, Module, Segmented, UnknownCode, PastEnd, NoData, NoTime, NotShared, Padding, Record, OutputFull, NoEntries, Opening, OutputLength, MalformedCopy}
 use Rattle.records.specs.declared.refusal.RecordRefusal.{RecordRefusal}
@@ -49,6 +49,10 @@ offset_of NoEntries = 0
 offset_of Opening = 0
 offset_of OutputLength = 0
 offset_of MalformedCopy = 0
+
+-- number and offset tell which refusal it is
+abbrev pub ToldApart : Type 0
+ToldApart = (a b : Refusal) → number_of a ≡ number_of b → offset_of a ≡ offset_of b → a ≡ b
 
 abbrev pub record_number : RecordRefusal → ℕ
 record_number Length = 21

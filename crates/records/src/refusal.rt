@@ -2,7 +2,7 @@
 pub mod text;
 
 ghost use Rattle.std.specs.Prelude.{◌≡◌, ℕ};
-ghost use Rattle.records.specs.Numbers.{number_of, offset_of, record_number, write_number, lookup_number};
+ghost use Rattle.records.specs.Numbers.{number_of, offset_of, ToldApart, record_number, write_number, lookup_number};
 ghost use Rattle.records.specs.declared.refusal.WriteRefusal.TheVariants.{Record};
 
 // What is refused with a number.
@@ -66,7 +66,8 @@ impl Numbered for Refusal {
 impl Refusal {
     // Where the refused bytes begin; 0, as a rule of the format, for a refusal of the whole.
     pub fn offset(self) -> usize
-        ensures { result ≡ offset_of self }
+        ensures offset { result ≡ offset_of self }
+        ensures told_apart { ToldApart }
     {
         match self {
             Refusal::PastEnd { offset }

@@ -94,7 +94,7 @@ pub struct Chain<L, R> {
     pub right: R,
 }
 
-// Here too.
+// `check` and `write` differ in what they ask of the registries, as in `Single`.
 impl<L: Registry, R: Registry> Registry for Chain<L, R> {
     ghost services = { λ s code. or_else (L.Registry.services s.left code) (R.Registry.services s.right code) };
 

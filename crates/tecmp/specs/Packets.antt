@@ -18,5 +18,5 @@ module _ {R : Type 0} (services : R → Services) (packet : Packet R) where
   read_in at = inside_by (services packet.registry.now packet.head.code) packet.head.shares packet.head.code packet.bytes.now at
 
   -- from an offset on
-  abbrev pub entries_in : ℕ → Entries
-  entries_in at = entries_by (services packet.registry.now packet.head.code) packet.head.shares packet.head.code packet.bytes.now at
+  abbrev pub packet_entries : ℕ → Entries
+  packet_entries at = entries_by (services packet.registry.now packet.head.code) packet.head.shares packet.head.code packet.bytes.now at

@@ -3,7 +3,7 @@ use Rattle.std.specs.Prelude.{◌≡◌, ℕ, suc, ◌-◌, [], length, Some, No
 use Rattle.records.specs.Services.{Services}
 use Rattle.records.specs.declared.refusal.Refusal.{Refusal}
 use Rattle.tecmp.specs.Entries.{Entries}
-use Rattle.tecmp.specs.Packets.{read_in, entries_in}
+use Rattle.tecmp.specs.Packets.{read_in, packet_entries}
 use Rattle.tecmp.specs.Reading.{Answer}
 use Rattle.tecmp.specs.Views.{viewed}
 use Rattle.tecmp.specs.declared.entries.PacketEntries.{PacketEntries}
@@ -26,7 +26,7 @@ module _ {R : Type 0} (services : R → Services) where
 
   abbrev pub entries_left : Packet R → Option ℕ → Entries
   entries_left packet None = Ok []
-  entries_left packet (Some at) = entries_in services packet at
+  entries_left packet (Some at) = packet_entries services packet at
 
   abbrev pub left : PacketEntries R → Entries
   left s = entries_left s.packet s.next

@@ -20,7 +20,7 @@ pub const LAST_MODULE: u16 = 255;
 // End and start of a segment: both are set in a message that is whole.
 const WHOLE: u16 = 0b11;
 
-// Where packets come from or go to: message type and module, which is 0 in replay: the format has it so, also where it is written.
+// Where packets come from or go to: message type and module. In replay the module is 0, as the format has it wherever one is written.
 #[derive(Clone, Copy)]
 pub struct Stream {
     pub message_type: MessageType,

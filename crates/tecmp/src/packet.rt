@@ -1,7 +1,7 @@
 // A packet whose head was read, and the entries in it.
 ghost use Rattle.std.specs.Prelude.{◌≡◌, length, IfOk};
 ghost use Rattle.tecmp.specs.Entries.{counted};
-ghost use Rattle.tecmp.specs.Packets.{head_in, read_in, entries_in};
+ghost use Rattle.tecmp.specs.Packets.{head_in, read_in, packet_entries};
 ghost use Rattle.tecmp.specs.Reading.{head_reading, here, of_rest_by};
 ghost use Rattle.tecmp.specs.Views.{answered};
 
@@ -17,7 +17,7 @@ pub const FIRST_ENTRY: usize = 12;
 
 const PADDED_LIMIT: usize = 46;
 
-// Its entries are read by what the head says, whichever head that is.
+// A packet with the head that was read of it. Its entries are read by what that head says, whichever it is.
 #[derive_where(Clone, Copy)]
 pub struct Packet<'r, 'p, R> {
     pub registry: &'r R,
@@ -114,7 +114,7 @@ impl<'r, 'p, R: Registry> Packet<'r, 'p, R> {
 
     // Counts the entries.
     pub fn count(&self) -> Result<usize, Refusal>
-        ensures { result ≡ counted 0 (entries_in R.Registry.services self.now 12) }
+        ensures { result ≡ counted 0 (packet_entries R.Registry.services self.now 12) }
     {
         // a loop, since nothing bounds the sum inside a closure of `try_fold`
         let mut count = 0;

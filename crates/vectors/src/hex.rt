@@ -22,6 +22,7 @@ pub fn read_bytes(heap: Global, text: &str) -> Result<Vec<u8>, AllocError> {
         match piece.split_once('*') {
             None => push_piece(&mut bytes, piece.as_bytes())?,
             Some((once, times)) => {
+                // what is no number counts as 0
                 for _ in 0..times.parse::<u16>().unwrap_or(0) {
                     push_piece(&mut bytes, once.as_bytes())?;
                 }

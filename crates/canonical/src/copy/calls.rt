@@ -64,6 +64,7 @@ impl<'r, R: Registry> CanonicalCopy<'r, R> {
         ensures entry { IfOk result (λ accepted. (accepted.registry.now ≡ self.now.registry.now) × (viewed accepted.view ≡ viewed entry.entry)) }
         ensures fits { IfOk result (λ accepted. (after (R.Registry.services self.now.registry.now) self.now.state.extent (viewed entry.entry)).length + 4 ≤ self.now.state.capacity) }
     {
+        // in an added entry every offset is 0, as a rule of the format
         let offset = 0;
         let state = self.state;
         if lent != state.capacity {
@@ -126,7 +127,7 @@ impl<'r, R: Registry> CanonicalCopy<'r, R> {
     pub fn close(self, out: &mut [u8]) -> Result<Closed, (Refusal, Self)>
         ensures { ClosedWith (R.Registry.services self.entry.registry.now) self.entry out.old out.new result }
     {
-        // Taken apart first: the checker doesn't cover handing a value with an extent inside back whole.
+        // Taken apart first, and a `match` for `map_err`: the checker covers a value with an extent inside neither when it is handed back whole nor in a closure.
         let CanonicalCopy { registry, state } = self;
         let closed = match state.closed(out.len()) {
             Ok(closed) => closed,

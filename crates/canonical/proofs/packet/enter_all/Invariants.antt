@@ -1,5 +1,5 @@
 use Rattle.std.proofs.Common.{◌≡◌, ◌≤◌, true, is_ok}
-use Rattle.tecmp.specs.Packets.{entries_in}
+use Rattle.tecmp.specs.Packets.{packet_entries}
 use Rattle.tecmp.specs.Steps.{left, steps_left}
 use Rattle.canonical.specs.Calls.{listed}
 use Rattle.canonical.specs.States.{after_all, put_all}
@@ -9,7 +9,7 @@ use Rattle.canonical.proofs.packet.enter_all.Given as goal
 abbrev pub invariant-loop-view : goal.invariant-loop-view
 invariant-loop-view g l =
     let services = g.R.Registry.services l.packet.registry.now in
-    let all = listed (entries_in g.R.Registry.services l.packet 12) in
+    let all = listed (packet_entries g.R.Registry.services l.packet 12) in
     let rest = left g.R.Registry.services l.entries in
     (is_ok rest ≡ true)
     × (l.extent.length ≤ 16777216)
