@@ -48,21 +48,13 @@ module _ (services : Services) where
       go (Some p) t = h.reaches ∙ room_tail (packets_of services stream es) p t
 
   module _ (law : (code : Code) → LawfulService (services code)) (stream : Stream) where
-    pub length-put_all : (x : Extent) (out : List ℕ) (es new : List Entry) → Holds services stream x out es → AllByRecursion (Accepted services stream) new
-        → (after_all services x new).length + 4 ≤ length out → length (put_all services stream x new out) ≡ length out
-    length-put_all x out es [] h a f = refl
-    length-put_all x out es (e ∷ new) h a f =
-        let g : (after services x e).length ≤ (after_all services (after services x e) new).length = grows_all (after services x e) new refl in
-        let fit : (after services x e).length + 4 ≤ length out = omega arith in
-        let l : length (put services stream x e out) ≡ length out = length-put services law stream x out es h e a.0 fit in
-        length-put_all (after services x e) (put services stream x e out) (es ++ e ∷ []) new (holds_more services law stream x out es h e a.0 fit) a.1 (omega arith) ∙ l
-
     pub holds_all : (x : Extent) (out : List ℕ) (es new : List Entry) → Holds services stream x out es → AllByRecursion (Accepted services stream) new
-        → (after_all services x new).length + 4 ≤ length out → Holds services stream (after_all services x new) (put_all services stream x new out) (es ++ new)
-    holds_all x out es [] h a f = subst (Holds services stream x out) (sym (append-nil es)) h
+        → (after_all services x new).length + 4 ≤ length out
+        → (length (put_all services stream x new out) ≡ length out) × Holds services stream (after_all services x new) (put_all services stream x new out) (es ++ new)
+    holds_all x out es [] h a f = (refl, subst (Holds services stream x out) (sym (append-nil es)) h)
     holds_all x out es (e ∷ new) h a f =
         let g : (after services x e).length ≤ (after_all services (after services x e) new).length = grows_all (after services x e) new refl in
         let fit : (after services x e).length + 4 ≤ length out = omega arith in
         let l : length (put services stream x e out) ≡ length out = length-put services law stream x out es h e a.0 fit in
-        subst (Holds services stream (after_all services x (e ∷ new)) (put_all services stream x (e ∷ new) out)) (append_assoc es (e ∷ []) new)
-        (holds_all (after services x e) (put services stream x e out) (es ++ e ∷ []) new (holds_more services law stream x out es h e a.0 fit) a.1 (omega arith))
+        let rest = holds_all (after services x e) (put services stream x e out) (es ++ e ∷ []) new (holds_more services law stream x out es h e a.0 fit) a.1 (omega arith) in
+        (rest.0 ∙ l, subst (Holds services stream (after_all services x (e ∷ new)) (put_all services stream x (e ∷ new) out)) (append_assoc es (e ∷ []) new) rest.1)

@@ -25,7 +25,7 @@ use Rattle.canonical.specs.States.{spliced, after_all, put_all}
 use Rattle.canonical.specs.declared.state.Closed.{Closed}
 use Rattle.canonical.specs.declared.state.State.{State}
 use Rattle.canonical.proofs.Accepted.{Accepted, may_stand}
-use Rattle.canonical.proofs.Growth.{holds_all, length-put_all}
+use Rattle.canonical.proofs.Growth.{holds_all}
 use Rattle.canonical.proofs.Places.{take-spliced}
 use Rattle.canonical.proofs.Ranges.{time_below, time_again}
 use Rattle.canonical.proofs.Stands.{Stands, moved, stands_opened}
@@ -39,11 +39,12 @@ module _ (services : Services) (law : (code : Code) → LawfulService (services 
   stands_all s out es new st a f =
       let l : s.capacity ≡ length out = st.lent in
       let fits : (after_all services s.extent new).length + 4 ≤ length out = omega arith in
+      let held = holds_all services law s.stream s.extent out es new st.holds a fits in
       record {
-        lent = l ∙ sym (length-put_all services law s.stream s.extent out es new st.holds a fits);
+        lent = l ∙ sym held.0;
         narrow = st.narrow;
         own = st.own;
-        holds = holds_all services law s.stream s.extent out es new st.holds a fits;
+        holds = held.1;
       }
 
   added_accepted : (s : State) (a : Addition) (lent : ℕ) → Typed a → tested {A = Unit {0}} (add_tests services s (entry_of s.stream a) lent) (Ok tt) ≡ Ok tt

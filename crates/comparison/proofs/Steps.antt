@@ -99,13 +99,13 @@ module _ {R : Type 0} (services : R → Services) (registry : R) (s : List ℕ) 
   pub not_opened : (d : RefusedPacket) → q ≡ Err d → (w : Refusal) × Q w d × (entries (services registry) None s ≡ Err w)
   not_opened d e =
       let i = mapped_err Q r q d m e in
-      (i.0, i.2, sym (no_head (services registry) s _ i.0 (ap head_in (sym i.1) ∙ head)))
+      (i.0, i.2, sym (no_head (services registry) None s _ i.0 (ap head_in (sym i.1) ∙ head)))
 
   opened : (packet : Packet R) → q ≡ Ok packet → (packet.registry.now ≡ registry) × (packet.bytes.now ≡ s) × (packet_entries services packet 12 ≡ entries (services registry) None s)
   opened packet e =
       let i = mapped_ok Q r q packet m e in
       let same = IfOk-at_ok (λ p. (p.registry.now ≡ registry) × (p.bytes.now ≡ s)) i of in
-      (same.0, same.1, by_packet services registry s (λ m head bytes. entries_by (m head.code) head.shares head.code bytes 12) packet (ap head_in (sym i) ∙ head) same)
+      (same.0, same.1, by_packet services registry None s (λ m head bytes. entries_by (m head.code) head.shares head.code bytes 12) packet (ap head_in (sym i) ∙ head) same)
 
   module _ (packet : Packet R) (e : q ≡ Ok packet) (P : Refusal → RefusedPacket → Type 0) (t : Result ℕ Refusal) (u : Result ℕ RefusedPacket)
       (count : t ≡ counted 0 (packet_entries services packet 12)) (n : Mapped P t u) where

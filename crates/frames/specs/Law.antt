@@ -115,6 +115,7 @@ sound s ok = record {
     again_length s ok (flags_read s f) d p,
   );
   fits = λ f d lt b p. (omega (arith, and_le_r f s.mask, ok.mask_fits), written_bytes s ok (flags_read s f) d p b);
+  -- each of the three codecs has other facts here, and `cc` puts them together
   passes = λ f d lt b p.
       let e₁ = kept_again s.mask f in
       let e₂ = again_count s ok (flags_read s f) d p in

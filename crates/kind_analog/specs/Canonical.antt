@@ -47,6 +47,7 @@ sound = record {
   fits = λ f d lt b p.
       let vs = values (step (factor_field f)) d in
       (flags_fit (unit_field f) (period_field f) (least_factor vs) (omega arith) (omega arith) (least_small vs), samples_bytes (step (least_factor vs)) vs);
+  -- each of the three codecs has other facts here, and `cc` puts them together
   passes = λ f d lt b p.
       let vs = values (step (factor_field f)) d in
       let e = fields (unit_field f) (period_field f) (least_factor vs) (omega arith) (omega arith) (least_small vs) in

@@ -52,6 +52,7 @@ layout_sound l ok = record {
     length-map d (byte_as (l.width (flags_read l f))),
   );
   fits = λ f d lt b p. (omega (arith, and_le_r f l.mask, ok.mask_fits), bytes_below (l.width (flags_read l f)) d b);
+  -- each of the three codecs has other facts here, and `cc` puts them together
   passes = λ f d lt b p.
       let g = flags_read l f in
       let e₁ = kept_again l.mask f in

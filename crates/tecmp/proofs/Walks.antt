@@ -4,6 +4,7 @@ use Rattle.std.proofs.lemmas.Bool.Decides.{nat_tests}
 use Rattle.std.proofs.lemmas.Bool.{and_parts}
 use Rattle.records.specs.declared.code.Code.{Code}
 use Rattle.tecmp.specs.declared.head.Head.{Head}
+use Rattle.tecmp.specs.declared.head.Stream.{Stream}
 use Rattle.tecmp.specs.declared.packet.Packet.{Packet}
 use Rattle.records.specs.declared.refusal.Refusal.{Refusal}
 use Rattle.records.specs.declared.refusal.Refusal.TheVariants.{PastEnd, NotShared, Padding}
@@ -126,23 +127,23 @@ pub by_reading : ByReading
 by_reading services s = (refl, tests_onward services s (head_tests services None s))
 
 -- after the head's tests comes what its head gives; a head that is refused refuses all
-pub by_head : {A : Type 0} (services : Services) (s : List ℕ) (next : Head → Result A Refusal) (head : Head)
-    → Ok head ≡ head_reading services None s → next head ≡ tested (head_tests services None s) (next (head_of services s))
-by_head services s next head e =
-    let t = tested_ok (head_tests services None s) head (head_of services s) (next (head_of services s)) e in
+pub by_head : {A : Type 0} (services : Services) (stream : Option Stream) (s : List ℕ) (next : Head → Result A Refusal) (head : Head)
+    → Ok head ≡ head_reading services stream s → next head ≡ tested (head_tests services stream s) (next (head_of services s))
+by_head services stream s next head e =
+    let t = tested_ok (head_tests services stream s) head (head_of services s) (next (head_of services s)) e in
     ap next t.1 ∙ sym t.0
 
 -- the same of a packet that was opened
-pub by_packet : {R A : Type 0} (services : R → Services) (registry : R) (s : List ℕ) (next : Services → Head → List ℕ → Result A Refusal) (packet : Packet R)
-    → Ok packet.head ≡ head_reading (services registry) None s → (packet.registry.now ≡ registry) × (packet.bytes.now ≡ s)
+pub by_packet : {R A : Type 0} (services : R → Services) (registry : R) (stream : Option Stream) (s : List ℕ) (next : Services → Head → List ℕ → Result A Refusal) (packet : Packet R)
+    → Ok packet.head ≡ head_reading (services registry) stream s → (packet.registry.now ≡ registry) × (packet.bytes.now ≡ s)
     → next (services packet.registry.now) packet.head packet.bytes.now
-    ≡ tested (head_tests (services registry) None s) (next (services registry) (head_of (services registry) s) s)
-by_packet services registry s next packet e same =
-    ap₂ (λ r b. next (services r) packet.head b) same.0 same.1 ∙ by_head (services registry) s (λ head. next (services registry) head s) packet.head e
+    ≡ tested (head_tests (services registry) stream s) (next (services registry) (head_of (services registry) s) s)
+by_packet services registry stream s next packet e same =
+    ap₂ (λ r b. next (services r) packet.head b) same.0 same.1 ∙ by_head (services registry) stream s (λ head. next (services registry) head s) packet.head e
 
-pub no_head : {A : Type 0} (services : Services) (s : List ℕ) (r : Result A Refusal) (w : Refusal)
-    → Err w ≡ head_reading services None s → Err w ≡ tested (head_tests services None s) r
-no_head services s r w e = tested_err (head_tests services None s) w (head_of services s) r e
+pub no_head : {A : Type 0} (services : Services) (stream : Option Stream) (s : List ℕ) (r : Result A Refusal) (w : Refusal)
+    → Err w ≡ head_reading services stream s → Err w ≡ tested (head_tests services stream s) r
+no_head services stream s r w e = tested_err (head_tests services stream s) w (head_of services s) r e
 
 -- what is known of a step that gave an entry
 pub record Stepped {R : Type 0} (services : R → Services) (s : PacketEntries R) (e : Entry) (t : PacketEntries R) : Type 0 where

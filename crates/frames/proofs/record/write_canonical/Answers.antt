@@ -5,6 +5,7 @@ use Rattle.frames.specs.Frames.{codec, flags_read, framed_on, bytes_of}
 use Rattle.frames.specs.Law.{sound, size}
 use Rattle.frames.proofs.record.write_canonical.Goals as goal
 
+-- as in `kind_analog`: the lines name the codec of this kind, and a lemma over codecs would only pass them on
 pub write_read-requires : goal.write_read-requires
 write_read-requires g c =
     let s = g.F.Frame.shape c.args.frame.now in

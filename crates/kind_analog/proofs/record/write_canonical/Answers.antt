@@ -7,6 +7,7 @@ use Rattle.kind_analog.specs.Factors.{canonical_fitting}
 use Rattle.kind_analog.specs.Settings.{factor_number}
 use Rattle.kind_analog.proofs.record.write_canonical.Goals as goal
 
+-- as in `frames`: the lines name the codec of this kind, and a lemma over codecs would only pass them on
 pub write-requires : goal.write-requires
 write-requires c =
     let f = c.args.flags in

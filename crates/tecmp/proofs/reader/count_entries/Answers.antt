@@ -1,4 +1,4 @@
-use Rattle.std.proofs.Common.{ap, ◌∙◌}
+use Rattle.std.proofs.Common.{None, ap, ◌∙◌}
 use Rattle.std.proofs.lemmas.Result.{err_from_is_err_and}
 use Rattle.tecmp.specs.Entries.{entries_by, counted}
 use Rattle.tecmp.proofs.Walks.{by_packet, no_head, by_reading}
@@ -9,7 +9,7 @@ returns g c =
     let opened = c.in_ok-open in
     record {
       count = c.count.ensures
-          ∙ ap (counted 0) (by_packet g.R.Registry.services c.args.registry.now c.args.packet.now (λ services head packet. entries_by (services head.code) head.shares head.code packet 12) opened.field-0 opened.ensures.head opened.ensures.of);
+          ∙ ap (counted 0) (by_packet g.R.Registry.services c.args.registry.now None c.args.packet.now (λ services head packet. entries_by (services head.code) head.shares head.code packet 12) opened.field-0 opened.ensures.head opened.ensures.of);
       walk = by_reading;
     }
 
@@ -17,6 +17,6 @@ pub returns-in_err-open : goal.returns-in_err-open
 returns-in_err-open g c =
     let p = err_from_is_err_and c.from_residual.result c.from_residual.ensures.1 in
     record {
-      count = rw (p.1, p.2) (ap (counted 0) (no_head (g.R.Registry.services c.args.registry.now) c.args.packet.now _ c.in_err-open.field-0.0 c.in_err-open.ensures.head));
+      count = rw (p.1, p.2) (ap (counted 0) (no_head (g.R.Registry.services c.args.registry.now) None c.args.packet.now _ c.in_err-open.field-0.0 c.in_err-open.ensures.head));
       walk = by_reading;
     }
