@@ -9,4 +9,5 @@ pub mod Ready
 pub mod Splices
 pub mod Stands
 pub mod Taken
+pub mod Takes
 pub mod Walked

@@ -1,4 +1,4 @@
-// The canonical copy: open, add, close.
+// The canonical copy: open, add, take, close.
 #![tactic(auto)]
 
 mod bytes;

@@ -1,5 +1,5 @@
 // The entries of a whole packet: how far the copy would reach with them, and writing them.
-ghost use Rattle.std.specs.Prelude.{◌≡◌, ◌≤◌, true, length, is_ok};
+ghost use Rattle.std.specs.Prelude.{◌≡◌, ◌≤◌, true, length, is_ok, IfOk};
 ghost use Rattle.tecmp.specs.Packets.{packet_entries};
 ghost use Rattle.canonical.specs.Calls.{listed};
 ghost use Rattle.canonical.specs.States.{after_all, put_all};
@@ -17,7 +17,8 @@ pub(crate) fn survey<R: Registry>(
     extent: Extent,
 ) -> Result<Extent, Refusal>
     requires { (extent.length ≤ 16777216) × (length packet.now.bytes.now ≤ 1500) }
-    ensures { result ≡ surveyed (R.Registry.services packet.now.registry.now) extent (packet_entries R.Registry.services packet.now 12) }
+    ensures is { result ≡ surveyed (R.Registry.services packet.now.registry.now) extent (packet_entries R.Registry.services packet.now 12) }
+    ensures bound { IfOk result (λ reached. reached.length ≤ 33554432) }
 {
     let mut reached = extent;
     for entry in packet.entries() {

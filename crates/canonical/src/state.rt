@@ -1,5 +1,5 @@
 // What a copy keeps of what it has written.
-ghost use Rattle.std.specs.Prelude.{◌≡◌, ◌+◌, ◌≤◌};
+ghost use Rattle.std.specs.Prelude.{◌≡◌, ◌+◌, ◌≤◌, nat_le};
 ghost use Rattle.canonical.specs.Calls.{closed};
 ghost use Rattle.canonical.specs.States.{frame, takes_entry, packet_for, joined_in, after};
 ghost use Rattle.tecmp.specs.Views.{viewed};
@@ -121,6 +121,14 @@ impl Extent {
             size: FIRST_ENTRY,
             data_type,
         })
+    }
+
+    // Whether the copy with a closing word fits an output of so many bytes.
+    pub(crate) fn fits(self, capacity: usize) -> bool
+        requires { self.length ≤ 33554432 }
+        ensures { result ≡ nat_le (self.length + 4) capacity }
+    {
+        self.length + WORD <= capacity
     }
 
     // How far the copy reaches with the entry more.

@@ -3,13 +3,14 @@ ghost use Rattle.std.specs.Prelude.{◌≡◌, ◌+◌, ◌≤◌, length, Ok as
 ghost use Rattle.records.specs.Codes.{type_of};
 ghost use Rattle.records.specs.Tests.{tested};
 ghost use Rattle.tecmp.specs.Views.{viewed};
-ghost use Rattle.canonical.specs.Calls.{stream_of, opened, addition, add_tests, Adds};
+ghost use Rattle.canonical.specs.Calls.{stream_of, opened, addition, add_tests, Adds, taken, Takes};
 ghost use Rattle.canonical.specs.States.{after};
-ghost use Rattle.canonical.specs.Copies.{Opened, emptied, ClosedWith};
+ghost use Rattle.canonical.specs.Copies.{Opened, emptied, Taken, ClosedWith};
 
 use super::CanonicalCopy;
 use crate::bytes::{WordKind, put};
 use crate::entry::AcceptedEntry;
+use crate::packet::{enter_all, survey};
 use crate::state::{Closed, Extent, State, WORD};
 use records::code::{Code, MessageType};
 use records::kind::DATA_LIMIT;
@@ -17,6 +18,7 @@ use records::refusal::{LookupRefusal, Refusal};
 use records::registry::Registry;
 use tecmp::entry::{EntryView, has_time, time_of};
 use tecmp::head::{LAST_MODULE, Stream};
+use tecmp::packet::Packet;
 
 const LARGEST_OUTPUT: usize = 16_777_216;
 
@@ -85,8 +87,7 @@ impl<'r, R: Registry> CanonicalCopy<'r, R> {
                 LookupRefusal::Kind(_) => Refusal::Record { offset },
             },
         )?;
-        let next = state.extent.extend(&accepted);
-        if next.length + WORD > state.capacity {
+        if !state.extent.extend(&accepted).fits(state.capacity) {
             return Err(Refusal::OutputFull);
         }
         Ok(accepted)
@@ -120,6 +121,33 @@ impl<'r, R: Registry> CanonicalCopy<'r, R> {
         };
         let accepted = self.judge(out.len(), entry)?;
         self.state.extent = accepted.enter(state, out);
+        Ok(())
+    }
+
+    // Tests a packet to be taken, with an output of so many bytes.
+    fn judge_packet<'p>(&self, lent: usize, bytes: &'p [u8]) -> Result<Packet<'r, 'p, R>, Refusal>
+        ensures answer { emptied result ≡ taken (R.Registry.services self.now.registry.now) self.now.state bytes.now lent }
+        ensures packet { IfOk result (λ packet. Taken (R.Registry.services) self.now packet bytes.now) }
+    {
+        let state = self.state;
+        if lent != state.capacity {
+            return Err(Refusal::OutputLength);
+        }
+        let packet = Packet::open(self.registry, Some(state.stream), bytes)?;
+        let reached = survey(&packet, state.extent)?;
+        if !reached.fits(state.capacity) {
+            return Err(Refusal::OutputFull);
+        }
+        Ok(packet)
+    }
+
+    // Adds all entries of a packet, or none: each in its canonical encoding, as `add` would.
+    pub fn take(&mut self, out: &mut [u8], packet: &[u8]) -> Result<(), Refusal>
+        ensures answer { Takes (R.Registry.services self.old.registry.now) self.old.state out.old packet.now result self.new.state out.new }
+        ensures registry { self.new.registry ≡ self.old.registry }
+    {
+        let packet = self.judge_packet(out.len(), packet)?;
+        self.state.extent = enter_all(&packet, self.state, out);
         Ok(())
     }
 
