@@ -1,3 +1,7 @@
+pub mod CopiesRead
 pub mod Cuts
 pub mod Lengths
 pub mod Packets
+pub mod PacketsRead
+pub mod Words
+pub mod Written

@@ -1,3 +1,4 @@
 pub mod Cutting
 pub mod Image
 pub mod Items
+pub mod ReadingBack
