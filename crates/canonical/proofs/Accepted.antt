@@ -11,10 +11,10 @@ use Rattle.records.proofs.Served.{canonical_by_lem}
 use Rattle.tecmp.specs.Layout.{time_of, has_time}
 use Rattle.tecmp.specs.Reading.{Entry}
 use Rattle.tecmp.specs.declared.head.Stream.{Stream}
-use Rattle.copy_format.specs.Cutting.{cut}
+use Rattle.copy_format.specs.Cutting.{cut, Passes}
 use Rattle.copy_format.specs.Image.{packet_limit, packets_of}
 use Rattle.copy_format.specs.Items.{Item, item_of, size, allowed, sharing}
-use Rattle.copy_format.proofs.Cuts.{Passes, passes_cut}
+use Rattle.copy_format.proofs.Cuts.{passes_cut}
 use Rattle.copy_format.proofs.Packets.{alone}
 
 pub record Accepted (services : Services) (stream : Stream) (e : Entry) : Type 0 where

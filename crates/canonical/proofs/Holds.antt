@@ -11,7 +11,8 @@ use Rattle.tecmp.specs.Reading.{Entry}
 use Rattle.tecmp.specs.declared.head.Stream.{Stream}
 use Rattle.copy_format.specs.Image.{packet_limit, packet_head, packets_of, body}
 use Rattle.copy_format.specs.Items.{Item, item_of, size, sharing}
-use Rattle.copy_format.proofs.Cuts.{Passes, grow, cut-push, cut_joins, cut_begins}
+use Rattle.copy_format.proofs.Cuts.{grow, cut-push, cut_joins, cut_begins}
+use Rattle.copy_format.specs.Cutting.{Passes}
 use Rattle.copy_format.proofs.Lengths.{room, length-packet_head}
 use Rattle.copy_format.proofs.Packets.{joins}
 use Rattle.canonical.specs.States.{frame, packet_for, packets_with, extended, begun, appended, joined_by, joined_in, after, put}

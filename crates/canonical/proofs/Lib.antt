@@ -1,11 +1,16 @@
 pub mod Accepted
+pub mod Again
 pub mod Appends
+pub mod Encodings
 pub mod Growth
 pub mod Holds
+pub mod Laws
 pub mod Logged
 pub mod Places
 pub mod Ranges
+pub mod ReadsBack
 pub mod Ready
+pub mod Same
 pub mod Splices
 pub mod Stands
 pub mod Taken

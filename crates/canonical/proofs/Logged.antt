@@ -20,7 +20,7 @@ use Rattle.copy_format.specs.Items.{item_of}
 use Rattle.copy_format.proofs.Cuts.{flat-cut}
 use Rattle.copy_format.proofs.Lengths.{length-word}
 use Rattle.canonical.specs.Calls.{stream_of, Addition, Typed, entry_of, reaching, Leaves, add_tests, room, taken, listed, entries_in, closing, Closes}
-use Rattle.canonical.specs.Log.{Log, open_done, add, take_packet, close_refused, add_elsewhere, take_elsewhere, close_elsewhere, accepted_if, Faithful, AnyLog}
+use Rattle.canonical.specs.Log.{Log, open_done, add, take_packet, close_refused, add_elsewhere, take_elsewhere, close_elsewhere, accepted_if, Faithful}
 use Rattle.canonical.specs.States.{spliced, after_all, put_all}
 use Rattle.canonical.specs.declared.state.Closed.{Closed}
 use Rattle.canonical.specs.declared.state.State.{State}
@@ -33,7 +33,7 @@ use Rattle.canonical.proofs.Taken.{then_ok, taken_accepted}
 
 module _ (services : Services) (law : (code : Code) → LawfulService (services code)) where
   -- entries that are accepted and fit
-  stands_all : (s : State) (out : List ℕ) (es new : List Entry) → Stands services s out es → AllByRecursion (Accepted services s.stream) new
+  pub stands_all : (s : State) (out : List ℕ) (es new : List Entry) → Stands services s out es → AllByRecursion (Accepted services s.stream) new
       → (after_all services s.extent new).length + 4 ≤ s.capacity
       → Stands services (reaching s (after_all services s.extent new)) (put_all services s.stream s.extent new out) (es ++ new)
   stands_all s out es new st a f =
@@ -109,7 +109,7 @@ module _ (services : Services) (law : (code : Code) → LawfulService (services 
   counted : (s : State) (out : List ℕ) (es : List Entry) → Stands services s out es → s.extent.entries ≡ length (flat (packets_of services s.stream es))
   counted s out es st = st.holds.entries_are ∙ sym (ap length (flat-cut (may_stand services s.stream) (map (item_of services) es)) ∙ length-map es (item_of services))
 
-  faithful_closing : (s : State) (out : List ℕ) (out' : List ℕ) (es : List Entry) → Stands services s out es → out' ≡ spliced out s.extent.length (word 2 s.extent.entries)
+  pub faithful_closing : (s : State) (out : List ℕ) (out' : List ℕ) (es : List Entry) → Stands services s out es → out' ≡ spliced out s.extent.length (word 2 s.extent.entries)
       → Faithful services s es (closing s) out'
   faithful_closing s out out' es st w = record {
     bytes = ap (take (s.extent.length + 4)) w ∙ closed_bytes s out es st ∙ ap (λ n. body s.stream 1 (packets_of services s.stream es) ++ word 2 n) (counted s out es st);
@@ -119,7 +119,7 @@ module _ (services : Services) (law : (code : Code) → LawfulService (services 
 
 -- a closed copy is the image of what it has accepted
 pub faithful : (services : Services) → ((code : Code) → LawfulService (services code)) → (s : State) (out : List ℕ) (c : Closed) (out' : List ℕ)
-    → Closes s out (Ok c) out' → AnyLog services s out c out'
+    → Closes s out (Ok c) out' → (es : List Entry) → Log services s out es → Faithful services s es c out'
 faithful services law s out c out' r es log =
     let p = (passed ((eqb (length out) s.capacity, OutputLength) ∷ (ltb 0 s.extent.entries, NoEntries) ∷ []) (Ok (closing s)) c (sym r.0)).1 in
     let i : closing s ≡ c = cc in

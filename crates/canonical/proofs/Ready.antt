@@ -4,7 +4,7 @@ use Rattle.std.proofs.lemmas.List.{length-append, length-replicate}
 use Rattle.tecmp.specs.declared.head.Stream.{Stream}
 use Rattle.copy_format.specs.Image.{item_bytes, packet_head, packet_bytes, type_in, word, filling, framed, body}
 use Rattle.copy_format.specs.Items.{Item, size, sizes}
-use Rattle.copy_format.proofs.Cuts.{NonEmpty}
+use Rattle.copy_format.specs.Cutting.{NonEmpty}
 use Rattle.copy_format.proofs.Lengths.{length-word, length-item, length-packet_head, length-packet, length-body, room, room-push, body-push, packet_one, packet-push, type_push, framed-push}
 use Rattle.copy_format.proofs.Packets.{sizes-push}
 use Rattle.canonical.specs.States.{frame, spliced, appended}

@@ -6,7 +6,7 @@ use Rattle.tecmp.specs.Entries.{entries}
 use Rattle.tecmp.specs.Packets.{packet_entries}
 use Rattle.tecmp.specs.declared.packet.Packet.{Packet}
 use Rattle.canonical.specs.Calls.{listed, Closes}
-use Rattle.canonical.specs.Log.{AnyLog}
+use Rattle.canonical.specs.Law.{AnyLog}
 use Rattle.canonical.specs.States.{after_all}
 use Rattle.canonical.specs.declared.copy.CanonicalCopy.{CanonicalCopy}
 use Rattle.canonical.specs.declared.state.Closed.{Closed}

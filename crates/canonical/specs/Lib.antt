@@ -1,6 +1,7 @@
 pub mod Calls
 pub mod Copies
 pub mod Extents
+pub mod Law
 pub mod Log
 pub mod Sound
 pub mod States

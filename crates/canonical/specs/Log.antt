@@ -40,7 +40,3 @@ pub record Faithful (services : Services) (s : State) (es : List Entry) (c : Clo
   pub bytes : take c.bytes out ≡ image services s.stream es
   pub entries : c.entries ≡ length es
   pub packets : c.packets ≡ length (packets_of services s.stream es)
-
--- whatever calls led to the close
-abbrev pub AnyLog : Services → State → List ℕ → Closed → List ℕ → Type 0
-AnyLog services s out c out' = (es : List Entry) → Log services s out es → Faithful services s es c out'

@@ -17,7 +17,8 @@ use Rattle.tecmp.specs.declared.entry.EntryView.{EntryView}
 use Rattle.tecmp.specs.declared.packet.Packet.{Packet}
 use Rattle.tecmp.proofs.Walks.{by_packet, no_head, counted_err, entries_on, step_ok}
 use Rattle.comparison.specs.Comparing.{DiffersIn, HeadsDiffer, Judges, listed, statements}
-use Rattle.comparison.specs.Statements.{Statement, Accepted, stated}
+use Rattle.comparison.specs.Statements.{Accepted}
+use Rattle.tecmp.specs.Statements.{Statement, stated}
 use Rattle.comparison.specs.declared.packets.Field.{Field}
 use Rattle.comparison.specs.declared.packets.Field.TheVariants.{Presence, Code, Interface, Time, Content}
 use Rattle.comparison.specs.declared.packets.RefusedPacket.{RefusedPacket}

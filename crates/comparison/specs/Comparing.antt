@@ -2,7 +2,7 @@
 use Rattle.std.specs.Prelude.{◌≡◌, ℕ, true, List, [], ◌∷◌, map, length, take, drop, is_ok, Some, None, Ok, Err, Option, Result, ◌≢◌}
 use Rattle.tecmp.specs.Entries.{Entries, entries}
 use Rattle.records.specs.Services.{Services}
-use Rattle.comparison.specs.Statements.{Statement, stated}
+use Rattle.tecmp.specs.Statements.{Statement, stated}
 use Rattle.comparison.specs.declared.packets.Field.{Field}
 use Rattle.comparison.specs.declared.packets.Field.TheVariants.{Presence, Code, Interface, Time, Content}
 use Rattle.comparison.specs.declared.packets.Comparison.{Comparison}

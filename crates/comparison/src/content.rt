@@ -3,7 +3,8 @@ ghost use Rattle.std.specs.Prelude.{◌≡◌, length, Decides};
 ghost use Rattle.records.specs.Verdicts.{Bytes};
 ghost use Rattle.tecmp.specs.Views.{viewed};
 ghost use Rattle.comparison.specs.Encodings.{Encodes};
-ghost use Rattle.comparison.specs.Statements.{Accepted, InRange, sense_in};
+ghost use Rattle.comparison.specs.Statements.{Accepted, InRange};
+ghost use Rattle.tecmp.specs.Statements.{sense_in};
 
 use records::kind::DATA_LIMIT;
 use records::registry::Registry;

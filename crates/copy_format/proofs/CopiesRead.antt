@@ -15,11 +15,10 @@ use Rattle.tecmp.specs.Entries.{entries}
 use Rattle.tecmp.specs.Layout.{be4, zeros}
 use Rattle.tecmp.specs.Reading.{Entry}
 use Rattle.tecmp.specs.declared.head.Stream.{Stream}
-use Rattle.copy_format.specs.Cutting.{flat}
+use Rattle.copy_format.specs.Cutting.{flat, NonEmpty, Passes}
 use Rattle.copy_format.specs.Image.{packet_limit, packet_head, item_bytes, type_in, packet_bytes, word, filling, framed, body, copy_of}
 use Rattle.copy_format.specs.Items.{Item, size, sizes, allowed, sharing}
 use Rattle.copy_format.specs.ReadingBack.{entry_moved, all_moved, packet_of, closing, filled, by_kind, part_of, with_packet, stream_of, first_packet, stream_in, onward, packets_in, packets_from, read_back}
-use Rattle.copy_format.proofs.Cuts.{NonEmpty, Passes}
 use Rattle.copy_format.proofs.Lengths.{length-word, length-packet, length-framed, room, length-copy}
 use Rattle.copy_format.proofs.Packets.{fine}
 use Rattle.copy_format.proofs.PacketsRead.{Narrow, placed, Fit, packet_read}

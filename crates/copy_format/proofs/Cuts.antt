@@ -3,11 +3,7 @@ use Rattle.std.proofs.Common.{◌≡◌, suc, ◌≤◌, Bool, true, false, cond
 use Rattle.std.specs.List.{AllByRecursion}
 use Rattle.std.proofs.lemmas.List.{append_assoc, append-nil}
 use Rattle.std.proofs.lemmas.Bool.{both_ways, cond_both}
-use Rattle.copy_format.specs.Cutting.{flat, cut_on, cut}
-
-abbrev pub NonEmpty : {A : Type 0} → List A → Type 0
-NonEmpty [] = ⊥
-NonEmpty (x ∷ xs) = Unit {0}
+use Rattle.copy_format.specs.Cutting.{flat, NonEmpty, Passes, cut_on, cut}
 
 module _ {A : Type 0} (allowed : List A → Bool) where
   -- one element more: to the last run if it stays allowed, else a run of its own
@@ -15,9 +11,6 @@ module _ {A : Type 0} (allowed : List A → Bool) where
   grow [] e = (e ∷ []) ∷ []
   grow (q ∷ []) e = cond (allowed (q ++ e ∷ [])) ((q ++ e ∷ []) ∷ []) (q ∷ (e ∷ []) ∷ [])
   grow (q ∷ r ∷ rs) e = q ∷ grow (r ∷ rs) e
-
-  abbrev pub Passes : List A → Type 0
-  Passes p = NonEmpty p × (allowed p ≡ true)
 
   -- nothing is lost
   pub flat-cut_on : (p es : List A) → flat (cut_on allowed p es) ≡ p ++ es
@@ -36,14 +29,14 @@ module _ {A : Type 0} (allowed : List A → Bool) where
   snoc_nonempty [] e = tt
   snoc_nonempty (x ∷ p) e = tt
 
-  pub passes_cut_on : (p es : List A) → Passes p → AllByRecursion (λ e. allowed (e ∷ []) ≡ true) es → AllByRecursion Passes (cut_on allowed p es)
+  pub passes_cut_on : (p es : List A) → Passes allowed p → AllByRecursion (λ e. allowed (e ∷ []) ≡ true) es → AllByRecursion (Passes allowed) (cut_on allowed p es)
   passes_cut_on p [] h each = (h, tt)
   passes_cut_on p (e ∷ es) h each =
-      cond_both (allowed (p ++ e ∷ [])) (cut_on allowed (p ++ e ∷ []) es) (p ∷ cut_on allowed (e ∷ []) es) (AllByRecursion Passes)
+      cond_both (allowed (p ++ e ∷ [])) (cut_on allowed (p ++ e ∷ []) es) (p ∷ cut_on allowed (e ∷ []) es) (AllByRecursion (Passes allowed))
       (λ y. passes_cut_on (p ++ e ∷ []) es (snoc_nonempty p e, y) each.1)
       (λ _. (h, passes_cut_on (e ∷ []) es (tt, each.0) each.1))
 
-  pub passes_cut : (es : List A) → AllByRecursion (λ e. allowed (e ∷ []) ≡ true) es → AllByRecursion Passes (cut allowed es)
+  pub passes_cut : (es : List A) → AllByRecursion (λ e. allowed (e ∷ []) ≡ true) es → AllByRecursion (Passes allowed) (cut allowed es)
   passes_cut [] each = tt
   passes_cut (e ∷ es) each = passes_cut_on (e ∷ []) es (tt, each.0) each.1
 
@@ -117,7 +110,7 @@ module _ {A : Type 0} (allowed : List A → Bool) where
         let i : allowed ((p ++ x ∷ []) ++ s) ≡ true = ap allowed a ∙ h in
         rw (front (p ++ x ∷ []) s i) (eats (p ++ x ∷ []) s es i ∙ ap (λ q. cut_on allowed q es) a)
 
-    pub fewest : (ps : List (List A)) → AllByRecursion Passes ps → length (cut allowed (flat ps)) ≤ length ps
+    pub fewest : (ps : List (List A)) → AllByRecursion (Passes allowed) ps → length (cut allowed (flat ps)) ≤ length ps
     fewest [] h = omega arith
     fewest ([] ∷ ps) h = absurd h.0.0
     fewest ((x ∷ q) ∷ ps) h =
@@ -125,5 +118,5 @@ module _ {A : Type 0} (allowed : List A → Bool) where
         let o : length (cut_on allowed (x ∷ q) (flat ps)) ≤ suc (length (cut allowed (flat ps))) = one_more (x ∷ q) (flat ps) in
         rw (eats (x ∷ []) q (flat ps) h.0.1) (omega arith)
 
-    pub minimal : (es : List A) (ps : List (List A)) → AllByRecursion Passes ps → flat ps ≡ es → length (cut allowed es) ≤ length ps
+    pub minimal : (es : List A) (ps : List (List A)) → AllByRecursion (Passes allowed) ps → flat ps ≡ es → length (cut allowed es) ≤ length ps
     minimal es ps h e = rw (← e) (fewest ps h)

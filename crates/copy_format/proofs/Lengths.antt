@@ -3,10 +3,9 @@ use Rattle.std.proofs.Common.{◌≡◌, ℕ, suc, ◌+◌, List, [], ◌∷◌,
 use Rattle.std.specs.List.{flat_map}
 use Rattle.std.proofs.lemmas.List.{append_assoc, append-nil, length-append, length-replicate, flat_map_more}
 use Rattle.tecmp.specs.declared.head.Stream.{Stream}
-use Rattle.copy_format.specs.Cutting.{flat}
+use Rattle.copy_format.specs.Cutting.{flat, NonEmpty}
 use Rattle.copy_format.specs.Image.{entry_head, item_bytes, packet_head, type_in, packet_bytes, word, filling, framed, body, copy_of}
 use Rattle.copy_format.specs.Items.{Item, size, sizes}
-use Rattle.copy_format.proofs.Cuts.{NonEmpty}
 
 pub length-word : (kind n : ℕ) → length (word kind n) ≡ 4
 unfolding word

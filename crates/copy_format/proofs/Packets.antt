@@ -2,10 +2,10 @@
 use Rattle.std.proofs.Common.{◌≡◌, ℕ, ◌+◌, ◌≤◌, Bool, true, false, ◌&&◌, ◌||◌, eqb, leb, List, [], ◌∷◌, ◌++◌, length, refl, ap, ◌∙◌, arith}
 use Rattle.std.specs.List.{AllByRecursion}
 use Rattle.std.proofs.lemmas.Bool.{and_parts, and_from, leb-true, le-leb, eqb-true}
-use Rattle.copy_format.specs.Cutting.{flat, cut}
+use Rattle.copy_format.specs.Cutting.{flat, cut, Passes}
 use Rattle.copy_format.specs.Image.{type_in}
 use Rattle.copy_format.specs.Items.{Item, size, sizes, all_of_type, none, allowed}
-use Rattle.copy_format.proofs.Cuts.{Passes, minimal}
+use Rattle.copy_format.proofs.Cuts.{minimal}
 
 pub sizes-++ : (p s : List Item) → sizes (p ++ s) ≡ sizes p + sizes s
 sizes-++ [] s = omega arith

@@ -92,7 +92,7 @@ module _ (number type : ℕ) (r : List ℕ) where
       (le-leb _ _ long, (le-leb _ _ short, (refl, (refl, (refl, (own, (same, (refl, (known, tt)))))))))
   head_passes services ReplayData device narrow long short known = (le-leb _ _ long, (le-leb _ _ short, (refl, (refl, (refl, (refl, (refl, (refl, (known, tt)))))))))
 
-served_if : (v : Service) (f : ℕ) (d : List ℕ) → is_ok (checked_by v f d) ≡ true → is_served v ≡ true
+pub served_if : (v : Service) (f : ℕ) (d : List ℕ) → is_ok (checked_by v f d) ≡ true → is_served v ≡ true
 served_if unserved f d e = cc
 served_if (served shares verdict) f d e = refl
 

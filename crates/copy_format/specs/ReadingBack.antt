@@ -11,6 +11,7 @@ use Rattle.tecmp.specs.Reading.{Entry}
 use Rattle.tecmp.specs.declared.head.Stream.{Stream}
 use Rattle.copy_format.specs.Cutting.{flat}
 use Rattle.copy_format.specs.Image.{filling}
+use Rattle.copy_format.specs.Items.{Item}
 
 -- offsets in a packet, counted from the start of the copy
 abbrev pub moved : ℕ → Refusal → Refusal
@@ -24,6 +25,14 @@ moved base refusal = refusal
 
 abbrev pub entry_moved : ℕ → Entry → Entry
 entry_moved base e = record { code = e.code; interface = e.interface; time = e.time; flags = e.flags; bytes = e.bytes; from = base + e.from }
+
+-- an entry without what depends on where it stood
+abbrev pub without_offset : Entry → Entry
+without_offset e = record { code = e.code; interface = e.interface; time = e.time; flags = e.flags; bytes = e.bytes; from = 0 }
+
+-- an entry as it was read, as what a packet holds
+abbrev pub item_read : Entry → Item
+item_read e = record { data_type = e.code.data_type; interface = e.interface; time = e.time; flags = e.flags; bytes = e.bytes }
 
 abbrev pub all_moved : ℕ → Entries → Entries
 all_moved base (Ok es) = Ok (map (entry_moved base) es)

@@ -1,6 +1,7 @@
 ghost use Rattle.tecmp.specs.Views.{viewed};
 ghost use Rattle.comparison.specs.Comparing.{Differs, Compared};
-ghost use Rattle.comparison.specs.Statements.{Accepted, stated};
+ghost use Rattle.comparison.specs.Statements.{Accepted};
+ghost use Rattle.tecmp.specs.Statements.{stated};
 
 use super::{Comparison, Field, RefusedPacket};
 use crate::content::same_sense;

@@ -5,7 +5,7 @@ use Rattle.canonical.specs.Calls.{Closes}
 use Rattle.canonical.specs.Extents.{Extent}
 use Rattle.canonical.specs.States.{spliced}
 use Rattle.canonical.specs.declared.copy.CanonicalCopy.{CanonicalCopy}
-use Rattle.canonical.proofs.Logged.{faithful}
+use Rattle.canonical.proofs.Laws.{lawful}
 use Rattle.canonical.proofs.copy.CanonicalCopy.close.Goals as goal
 
 -- a copy put together again of its fields
@@ -23,4 +23,4 @@ returns g c =
     let out = c.args.out.now in
     let done : Closes s out (Ok c.in-Ok.closed) c.put.new.out =
     (c.in-Ok.ensures, c.put.ensures ∙ ap (spliced out c.extent.inside.length) c.word.ensures ∙ ap (λ (x : Extent). spliced out x.length (word 2 x.entries)) c.extent.view_is) in
-    (done, faithful (g.R.Registry.services c.args.self.registry.now) (g.met.R.Registry.lawful c.args.self.registry.now) s out c.in-Ok.closed c.put.new.out done)
+    (done, lawful (g.R.Registry.services c.args.self.registry.now) (g.met.R.Registry.lawful c.args.self.registry.now) s out c.in-Ok.closed c.put.new.out done)
