@@ -10,6 +10,8 @@ pub mod Places
 pub mod Ranges
 pub mod ReadsBack
 pub mod Ready
+pub mod Recopied
+pub mod Recordings
 pub mod Same
 pub mod Splices
 pub mod Stands

@@ -3,6 +3,7 @@ pub mod Copies
 pub mod Extents
 pub mod Law
 pub mod Log
+pub mod Recopying
 pub mod Sound
 pub mod States
 pub mod Surveys
