@@ -15,7 +15,7 @@ const EXTENDED: u32 = 2;
 
 const ERROR_FRAME: u32 = 3;
 
-const CRC_USED: u32 = 13;
+pub const CRC_USED: u32 = 13;
 
 #[derive(Clone, Copy)]
 pub enum Protocol {

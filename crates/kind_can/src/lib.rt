@@ -4,4 +4,5 @@
 mod frame;
 pub mod kind;
 
+pub use frame::CRC_USED;
 pub use kind::{LoggedCan, LoggedCanFd, ReplayCan, ReplayCanFd};

@@ -12,7 +12,7 @@ const WAKE_UP_SYMBOL: u32 = 3;
 
 const COLLISION_AVOIDANCE_SYMBOL: u32 = 5;
 
-const USE_HEADER_CRC: u32 = 12;
+pub const USE_HEADER_CRC: u32 = 12;
 
 const LONGEST_PAYLOAD: u8 = 254;
 

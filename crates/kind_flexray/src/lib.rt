@@ -4,4 +4,5 @@
 mod frame;
 pub mod kind;
 
+pub use frame::USE_HEADER_CRC;
 pub use kind::{LoggedFlexRay, ReplayFlexRay};

@@ -16,7 +16,7 @@ const WAKE_UP: u32 = 8;
 
 const SHORT_WAKE_UP: u32 = 9;
 
-const USE_CHECKSUM: u32 = 13;
+pub const USE_CHECKSUM: u32 = 13;
 
 // An ID has six bits; parity stands above them.
 const IDS: u64 = 64;

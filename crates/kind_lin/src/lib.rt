@@ -4,4 +4,5 @@
 mod frame;
 pub mod kind;
 
+pub use frame::USE_CHECKSUM;
 pub use kind::{LoggedLin, ReplayLin};

@@ -1,18 +1,16 @@
 -- Worked examples: each is computed by the definitions that the contracts cite.
-use Rattle.std.specs.Prelude.{◌≡◌, ℕ, true, List, [], ◌∷◌, ◌++◌, replicate, pos, negsuc, None, Ok, Err}
+use Rattle.std.specs.Prelude.{◌≡◌, ℕ, List, [], ◌∷◌, ◌++◌, replicate, pos, negsuc, None, Ok, Err}
 use Rattle.records.specs.Codecs.{verdict_of}
 use Rattle.tecmp.specs.Entries.{entries, counted}
-use Rattle.records.specs.Services.{Services, single}
 use Rattle.records.specs.Verdicts.{Verdict, refuses, accepts}
 use Rattle.records.specs.declared.refusal.RecordRefusal.TheVariants.{Length, Setting}
 use Rattle.records.specs.declared.refusal.Refusal.TheVariants.{Padding}
-use Rattle.frames.specs.Frames.{codec as frame_codec}
 use Rattle.kind_analog.specs.Analog.{codec}
 use Rattle.kind_bytes.specs.Examples.{BytesExamples}
-use Rattle.kind_can.specs.Can.{can_shape, code_of, logged_can}
 use Rattle.kind_can.specs.Examples.{CanExamples}
 use Rattle.kind_flexray.specs.Examples.{FlexRayExamples}
 use Rattle.kind_lin.specs.Examples.{LinExamples}
+use Rattle.kinds.specs.Table.{standard_service}
 
 abbrev pub analog : ℕ → List ℕ → Verdict
 analog = verdict_of codec
@@ -32,10 +30,6 @@ AnalogExamples =
     × (analog 0x1084 (0 ∷ 50 ∷ 0 ∷ []) ≡ refuses Length)
     × (analog 0x0084 (0 ∷ 50 ∷ []) ≡ refuses Setting)
 
--- the registry of logged CAN
-abbrev pub just_can : Services
-just_can = single (code_of logged_can) true (verdict_of (frame_codec (can_shape logged_can)))
-
 -- a logged CAN packet of 43 bytes: one entry, 11-bit ID 0x7FF, eight bytes of payload
 abbrev pub packet43 : List ℕ
 packet43 =
@@ -46,8 +40,8 @@ packet43 =
 abbrev pub PacketExamples : Type 0
 PacketExamples =
     -- with 3 zeros it has 46 bytes, and reads to its end; with 4 it is refused at offset 43
-    (counted 0 (entries just_can None (packet43 ++ replicate 3 0)) ≡ Ok 1)
-    × (entries just_can None (packet43 ++ replicate 4 0) ≡ Err (Padding 43))
+    (counted 0 (entries standard_service None (packet43 ++ replicate 3 0)) ≡ Ok 1)
+    × (entries standard_service None (packet43 ++ replicate 4 0) ≡ Err (Padding 43))
 
 abbrev pub Examples : Type 0
 Examples = AnalogExamples × CanExamples × LinExamples × FlexRayExamples × BytesExamples × PacketExamples

@@ -3,7 +3,8 @@
 
 ghost use Rattle.std.specs.Prelude.{◌≡◌};
 ghost use Rattle.kinds.specs.Examples.{Examples};
-ghost use Rattle.kinds.specs.Table.{sharing_table};
+ghost use Rattle.records.specs.Services.{sharing_of};
+ghost use Rattle.kinds.specs.Table.{standard_service};
 
 use frames::Framed;
 use kind_analog::Analog;
@@ -85,9 +86,10 @@ pub const STANDARD: Standard = Chain {
     },
 };
 
-// What the standard registry serves, and whether it shares packets.
+// Whether entries of a code share packets, if it is served. A theorem besides: by which rule the registry serves each code.
 pub fn standard_sharing(code: Code) -> Option<bool>
-    ensures { result ≡ sharing_table code }
+    ensures sharing { result ≡ sharing_of (standard_service code) }
+    ensures services { ⟦<Standard as Registry>⟧.services STANDARD code ≡ standard_service code }
 {
     STANDARD.sharing(code)
 }

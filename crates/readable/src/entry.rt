@@ -1,5 +1,5 @@
 // An entry as one line: interface, time, and what its record says.
-use crate::record::write_record;
+use crate::record::{Record, write_record};
 use records::Registry;
 use records::kind::DATA_LIMIT;
 use std::fmt;
@@ -48,5 +48,10 @@ fn write_content<W: fmt::Write, R: Registry>(
     let Ok(flags) = registry.write(entry.code, entry.flags, entry.data, part) else {
         return Ok(());
     };
-    write_record(f, entry.code, flags, part)
+    let record = Record {
+        code: entry.code,
+        flags,
+        data: part,
+    };
+    write_record(f, record)
 }

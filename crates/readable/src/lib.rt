@@ -3,6 +3,7 @@
 
 pub mod decimal;
 pub mod entry;
+mod frame;
 mod record;
 
 pub use decimal::Decimal;

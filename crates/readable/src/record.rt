@@ -1,8 +1,29 @@
-// What a record says, from its canonical flags and data.
+// What a record says, from its canonical encoding.
 use crate::decimal::Decimal;
+use crate::frame::{write_can, write_flexray, write_lin};
 use kind_analog::{AnalogReading, read_analog};
+use records::bits::bit;
 use records::{Code, MessageType};
 use std::fmt;
+
+// A record in its canonical encoding.
+#[derive(Clone, Copy)]
+pub(crate) struct Record<'d> {
+    pub(crate) code: Code,
+    pub(crate) flags: u16,
+    pub(crate) data: &'d [u8],
+}
+
+impl Record<'_> {
+    pub(crate) fn is_logged(self) -> bool {
+        self.code.message_type == MessageType::LoggingStream
+    }
+
+    // Whether a checksum is used: in replay a flag says so.
+    pub(crate) fn uses_checksum(self, flag: u32) -> bool {
+        self.is_logged() || bit(self.flags, flag)
+    }
+}
 
 // What the data of a record is made of.
 #[derive(Clone, Copy)]
@@ -37,81 +58,27 @@ impl TryFrom<u16> for Layout {
 // What follows are functions over a formatter: parts of one `Display`, with no values of their own to print.
 pub(crate) fn write_record<W: fmt::Write>(
     f: &mut fmt::Formatter<W>,
-    code: Code,
-    flags: u16,
-    data: &[u8],
+    record: Record,
 ) -> fmt::Result {
-    match Layout::try_from(code.data_type) {
-        Ok(Layout::Can) => write_can(f, "CAN", data)?,
-        Ok(Layout::CanFd) => write_can(f, "CAN-FD", data)?,
-        Ok(Layout::Lin) => write_lin(f, data)?,
-        Ok(Layout::FlexRay) => write_flexray(f, code.message_type, data)?,
-        Ok(Layout::Uart) => write_uart(f, data)?,
-        Ok(Layout::Analog) => return write_analog(f, flags, data),
-        Ok(Layout::Ethernet) => write_ethernet(f, data)?,
+    match Layout::try_from(record.code.data_type) {
+        Ok(Layout::Can) => write_can(f, "CAN", record)?,
+        Ok(Layout::CanFd) => write_can(f, "CAN-FD", record)?,
+        Ok(Layout::Lin) => write_lin(f, record)?,
+        Ok(Layout::FlexRay) => write_flexray(f, record)?,
+        Ok(Layout::Uart) => write_uart(f, record.data)?,
+        Ok(Layout::Analog) => return write_analog(f, record.flags, record.data),
+        Ok(Layout::Ethernet) => write_ethernet(f, record.data)?,
         Err(_) => (),
     }
+    let flags = record.flags;
     write!(f, ", flags {flags:04x}")
 }
 
-fn write_bytes<W: fmt::Write>(f: &mut fmt::Formatter<W>, bytes: &[u8]) -> fmt::Result {
+pub(crate) fn write_bytes<W: fmt::Write>(f: &mut fmt::Formatter<W>, bytes: &[u8]) -> fmt::Result {
     for byte in bytes {
         write!(f, " {byte:02x}")?;
     }
     Ok(())
-}
-
-// The payload and the trailer after a payload length, the trailer under its name.
-fn write_payload<W: fmt::Write>(
-    f: &mut fmt::Formatter<W>,
-    count: u8,
-    rest: &[u8],
-    trailer: &str,
-) -> fmt::Result {
-    let count = usize::from(count);
-    if count > rest.len() {
-        return Ok(());
-    }
-    let (payload, last) = rest.split_at(count);
-    write!(f, ", payload")?;
-    write_bytes(f, payload)?;
-    write!(f, ", {trailer}")?;
-    write_bytes(f, last)
-}
-
-fn write_can<W: fmt::Write>(f: &mut fmt::Formatter<W>, name: &str, data: &[u8]) -> fmt::Result {
-    let [i0, i1, i2, i3, count, rest @ ..] = data else {
-        return Ok(());
-    };
-    let word = u32::from_be_bytes([*i0, *i1, *i2, *i3]);
-    let width = if word >> 31 == 1 { 29 } else { 11 };
-    let identifier = word & 0x1fff_ffff;
-    write!(f, ", {name} ID {identifier:x} ({width} bits)")?;
-    write_payload(f, *count, rest, "CRC")
-}
-
-fn write_lin<W: fmt::Write>(f: &mut fmt::Formatter<W>, data: &[u8]) -> fmt::Result {
-    let [identifier, count, rest @ ..] = data else {
-        return Ok(());
-    };
-    write!(f, ", LIN ID {identifier:02x}")?;
-    write_payload(f, *count, rest, "checksum")
-}
-
-fn write_flexray<W: fmt::Write>(
-    f: &mut fmt::Formatter<W>,
-    message_type: MessageType,
-    data: &[u8],
-) -> fmt::Result {
-    let [cycle, s0, s1, count, rest @ ..] = data else {
-        return Ok(());
-    };
-    let slot = u16::from_be_bytes([*s0, *s1]);
-    write!(f, ", FlexRay cycle {cycle}, frame ID {slot}")?;
-    match message_type {
-        MessageType::LoggingStream => write_payload(f, *count, rest, "header and frame CRC"),
-        MessageType::ReplayData => write_payload(f, *count, rest, "repetition and header CRC"),
-    }
 }
 
 fn write_uart<W: fmt::Write>(f: &mut fmt::Formatter<W>, data: &[u8]) -> fmt::Result {

@@ -2,7 +2,7 @@ use crate::hex::{read_bytes, read_word};
 use anyhow::anyhow;
 use comparison::packets::compare::compare_packets;
 use comparison::{Comparison, RefusedPacket};
-use kinds::STANDARD;
+use kinds::{STANDARD, standard_sharing};
 use readable::EntryText;
 use records::{Code, MessageType, Numbered, Registry};
 use tecmp::reader::read_entry;
@@ -17,6 +17,7 @@ pub fn answer(rt: &HostRuntime, line: &str) -> anyhow::Result<()> {
         ["part", kind, flags, data, length] => {
             part_case(rt, kind, read_word(flags), data, length.parse::<usize>()?)
         }
+        ["sharing", kind] => sharing_case(rt, kind),
         ["compare", first, second] => compare_case(rt, first, second),
         _ => Ok(()),
     }
@@ -101,6 +102,16 @@ fn write_case(
         print!(rt; " {byte:02x}")?;
     }
     println!(rt; "")?;
+    Ok(())
+}
+
+fn sharing_case(rt: &HostRuntime, kind: &str) -> anyhow::Result<()> {
+    let text = match standard_sharing(read_code(kind)?) {
+        Some(true) => "shares packets",
+        Some(false) => "does not share packets",
+        None => "is not served",
+    };
+    println!(rt; "  {text}")?;
     Ok(())
 }
 

@@ -2,6 +2,7 @@
 //   read BYTES OFFSET          the entry at an offset of a packet
 //   record KIND FLAGS BYTES    check and write of a record; KIND is message type and data type, as 3/02
 //   part KIND FLAGS BYTES N    write of a record into a part of N bytes
+//   sharing KIND               whether entries of a kind share packets
 //   compare BYTES BYTES        two packets
 // A line of another form is printed as it is.
 #![tactic(auto)]
