@@ -62,10 +62,18 @@ fn run(rt: &HostRuntime) -> Result<(), Failure> {
     }
 }
 
-// A refusal, a difference and a file error have been printed by then; the error itself is not.
+// A refusal, a difference and a file error have been printed by then; want of memory and a failed output are said here.
 fn main(rt: HostRuntime) -> ExitCode {
     match run(&rt) {
         Ok(()) => ExitCode::SUCCESS,
-        Err(_) => ExitCode::FAILURE,
+        Err(failure) => {
+            // where standard error fails too, only the status is left
+            let _said = match failure {
+                Failure::Output(error) => eprintln!(rt; "compare: {error}"),
+                Failure::OutOfMemory => eprintln!(rt; "compare: out of memory"),
+                _ => Ok(()),
+            };
+            ExitCode::FAILURE
+        }
     }
 }
