@@ -77,3 +77,30 @@ fn main(rt: HostRuntime) -> ExitCode {
         }
     }
 }
+
+#[cfg(test)]
+mod tests {
+    use super::*;
+
+    // One sample: 0.5 A, at factor 0.1.
+    const TENTHS: [u8; 30] = [
+        0, 64, 0, 1, 3, 3, 0, 0x20, 0, 0, 0, 15, 0, 0, 0, 7, 0, 0, 0, 0, 0, 0, 0, 1, 0, 2, 0x10, 4,
+        0, 5,
+    ];
+
+    // The failure decides the status, and no contract speaks of files.
+    #[test]
+    fn ends_as_the_files_say(rt: HostRuntime) {
+        let mut other = TENTHS;
+        other[29] = 6;
+        assert!(rt; fs::write(&rt, "tenths", &TENTHS).is_ok());
+        assert!(rt; fs::write(&rt, "other", &other).is_ok());
+        assert!(rt; fs::write(&rt, "empty", &[]).is_ok());
+        assert!(rt; fs::write(&rt, "long", &[0; 1501]).is_ok());
+        assert!(rt; compare(&rt, "tenths", "tenths").is_ok());
+        assert!(rt; matches!(compare(&rt, "tenths", "other"), Err(Failure::Different)));
+        assert!(rt; matches!(compare(&rt, "empty", "tenths"), Err(Failure::Refused)));
+        assert!(rt; matches!(compare(&rt, "tenths", "long"), Err(Failure::Refused)));
+        assert!(rt; matches!(compare(&rt, "tenths", "missing"), Err(Failure::Unreadable)));
+    }
+}
