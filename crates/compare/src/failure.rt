@@ -3,7 +3,7 @@ use std::alloc::AllocError;
 use std::io;
 
 #[derive(Drop)]
-pub enum Failure {
+pub(crate) enum Failure {
     Usage,
     Unreadable,
     Refused,

@@ -7,7 +7,7 @@ use records::registry::Registry;
 use std::io;
 use tecmp::packet::Packet;
 
-pub fn print_packet<R: Registry>(
+pub(crate) fn print_packet<R: Registry>(
     rt: &HostRuntime,
     registry: &R,
     name: &str,
@@ -32,12 +32,12 @@ pub fn print_packet<R: Registry>(
     Ok(())
 }
 
-pub fn print_refusal(rt: &HostRuntime, name: &str, refusal: Refusal) -> Result<(), Failure> {
+pub(crate) fn print_refusal(rt: &HostRuntime, name: &str, refusal: Refusal) -> Result<(), Failure> {
     println!(rt; "{name}: refused with {refusal}")?;
     Err(Failure::Refused)
 }
 
-pub fn print_verdict(rt: &HostRuntime, comparison: Comparison) -> Result<(), Failure> {
+pub(crate) fn print_verdict(rt: &HostRuntime, comparison: Comparison) -> Result<(), Failure> {
     match comparison {
         Comparison::Same { .. } => {
             println!(rt; "same load")?;

@@ -64,7 +64,7 @@ impl Numbered for Refusal {
 }
 
 impl Refusal {
-    // Where the refused bytes begin; 0, as a rule of the format, for a refusal of the whole.
+    // Where the refused bytes begin; 0 for a refusal of the whole.
     pub fn offset(self) -> usize
         ensures offset { result ≡ offset_of self }
         ensures told_apart { ToldApart }

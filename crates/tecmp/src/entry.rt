@@ -15,11 +15,11 @@ pub struct EntryView<'p> {
     pub time: u64,
     pub flags: u16,
     pub data: &'p [u8],
-    // where the data begins; 0, as a rule of the format, for an entry of no packet
+    // where the data begins; 0 for an entry of no packet (docs/FORMAT.md)
     pub data_offset: usize,
 }
 
-// An entry and the offset after it, as a rule of the project: reading answers both.
+// An entry and the offset after it: reading answers both as one struct (docs/DECISIONS.md, the forms).
 #[derive(Clone, Copy)]
 pub struct EntryRead<'p> {
     pub entry: EntryView<'p>,

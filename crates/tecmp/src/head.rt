@@ -20,14 +20,14 @@ pub const LAST_MODULE: u16 = 255;
 // End and start of a segment: both are set in a message that is whole.
 const WHOLE: u16 = 0b11;
 
-// Where packets come from or go to: message type and module. In replay the module is 0, as the format has it wherever one is written.
+// Where packets come from or go to: message type and module. In replay the module is 0 (docs/FORMAT.md).
 #[derive(Clone, Copy)]
 pub struct Stream {
     pub message_type: MessageType,
     pub module: u16,
 }
 
-// What the head of a packet says. In replay module and counter are not read, and 0 here, as the format has them.
+// What the head of a packet says. In replay module and counter are not read, and 0 here (docs/FORMAT.md).
 #[derive(Clone, Copy)]
 pub struct Head {
     pub stream: Stream,

@@ -8,7 +8,7 @@ use records::{Code, MessageType, Numbered, Registry};
 use tecmp::reader::read_entry;
 
 // The first word of a line picks the case.
-pub fn answer(rt: &HostRuntime, line: &str) -> anyhow::Result<()> {
+pub(crate) fn answer(rt: &HostRuntime, line: &str) -> anyhow::Result<()> {
     println!(rt; "{line}")?;
     let words: Vec<&str> = line.split_whitespace().collect(rt.alloc())?;
     match words.as_slice() {

@@ -13,7 +13,7 @@ fn push_piece(bytes: &mut Vec<u8>, text: &[u8]) -> Result<(), AllocError> {
     Ok(())
 }
 
-pub fn read_bytes(heap: Global, text: &str) -> Result<Vec<u8>, AllocError> {
+pub(crate) fn read_bytes(heap: Global, text: &str) -> Result<Vec<u8>, AllocError> {
     let mut bytes = Vec::new(heap);
     if text == "-" {
         return Ok(bytes);
@@ -32,7 +32,7 @@ pub fn read_bytes(heap: Global, text: &str) -> Result<Vec<u8>, AllocError> {
     Ok(bytes)
 }
 
-pub fn read_word(text: &str) -> u16 {
+pub(crate) fn read_word(text: &str) -> u16 {
     text.bytes()
         .fold(0, |word, byte| word << 4 | u16::from(digit(byte)))
 }
