@@ -155,13 +155,11 @@ impl<'r, R: Registry> CanonicalCopy<'r, R> {
     pub fn close(self, out: &mut [u8]) -> Result<Closed, (Refusal, Self)>
         ensures { ClosedWith (R.Registry.services self.entry.registry.now) self.entry out.old out.new result }
     {
-        // Taken apart first, and a `match` for `map_err`: the checker covers a value with an extent inside neither when it is handed back whole nor in a closure.
-        let CanonicalCopy { registry, state } = self;
-        let closed = match state.closed(out.len()) {
+        let closed = match self.state.closed(out.len()) {
             Ok(closed) => closed,
-            Err(refusal) => return Err((refusal, CanonicalCopy { registry, state })),
+            Err(refusal) => return Err((refusal, self)),
         };
-        let extent = &state.extent;
+        let extent = &self.state.extent;
         put(out, extent.length, &WordKind::Closing.word(extent.entries));
         Ok(closed)
     }
