@@ -5,7 +5,8 @@ use crate::state::State;
 
 pub mod calls;
 
-// Neither `Drop` nor `Clone`: a copy ends by being closed, once.
+// Not `Clone`: a copy is closed at most once. One that is not closed may be dropped; its output is then no copy.
+#[derive(Drop)]
 pub struct CanonicalCopy<'r, R> {
     registry: &'r R,
     state: State,

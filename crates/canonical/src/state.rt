@@ -26,7 +26,8 @@ pub struct OpenPacket {
 
 // How far a copy reaches: its bytes up to where the closing word will stand, its entries and packets.
 // No bound on the length stands here: looking over a packet may lead past the output.
-#[derive(Clone, Copy, Default)]
+// Not `Copy`: the checker covers no caller that holds a struct with a `Copy` extent inside.
+#[derive(Default, Drop)]
 pub struct Extent {
     pub(crate) length: usize,
     pub(crate) entries: u32,
@@ -47,7 +48,7 @@ impl Model for Extent {
     ghost inverse = { λ x. record { length = x.length; entries = x.entries; packets = x.packets; last = x.last } };
 }
 
-#[derive(Clone, Copy)]
+#[derive(Drop)]
 pub struct State {
     pub stream: Stream,
     // the length of the output at opening
@@ -80,7 +81,7 @@ impl State {
         requires { self.now.extent.length ≤ 16777216 }
         ensures { result ≡ closed self.now lent }
     {
-        let extent = self.extent;
+        let extent = &self.extent;
         if lent != self.capacity {
             return Err(Refusal::OutputLength);
         }
@@ -104,17 +105,29 @@ fn frame_of(size: usize) -> usize
 }
 
 impl Extent {
+    // The same extent once more.
+    pub(crate) fn again(&self) -> Extent
+        ensures { result ≡ self.now }
+    {
+        Extent {
+            length: self.length,
+            entries: self.entries,
+            packets: self.packets,
+            last: self.last,
+        }
+    }
+
     // The last packet, if the entry joins it.
-    pub(crate) fn joined<R: Registry>(self, entry: &AcceptedEntry<'_, '_, R>) -> Option<OpenPacket>
-        ensures { result ≡ joined_in (R.Registry.services entry.now.registry.now) self (viewed entry.now.view) }
+    pub(crate) fn joined<R: Registry>(&self, entry: &AcceptedEntry<'_, '_, R>) -> Option<OpenPacket>
+        ensures { result ≡ joined_in (R.Registry.services entry.now.registry.now) self.now (viewed entry.now.view) }
     {
         let packet = self.last?;
         packet.takes(entry).then_some(packet)
     }
 
     // The packet that an entry goes into: the one it joins, or a new one, of which only the head is there.
-    pub(crate) fn packet_for(self, joined: Option<OpenPacket>, data_type: u16) -> OpenPacket
-        ensures { result ≡ packet_for self joined data_type }
+    pub(crate) fn packet_for(&self, joined: Option<OpenPacket>, data_type: u16) -> OpenPacket
+        ensures { result ≡ packet_for self.now joined data_type }
     {
         joined.unwrap_or(OpenPacket {
             begins: self.length,
@@ -124,9 +137,9 @@ impl Extent {
     }
 
     // Whether the copy with a closing word fits an output of so many bytes.
-    pub(crate) fn fits(self, capacity: usize) -> bool
-        requires { self.length ≤ 33554432 }
-        ensures { result ≡ nat_le (self.length + 4) capacity }
+    pub(crate) fn fits(&self, capacity: usize) -> bool
+        requires { self.now.length ≤ 33554432 }
+        ensures { result ≡ nat_le (self.now.length + 4) capacity }
     {
         self.length + WORD <= capacity
     }

@@ -6,20 +6,19 @@ ghost use Rattle.canonical.specs.States.{appended, frame, packet_for, begun, aft
 
 use crate::bytes::{WordKind, entry_head, packet_head, put, put_filling};
 use crate::entry::AcceptedEntry;
-use crate::state::{Extent, OpenPacket, State, WORD};
+use crate::state::{Extent, OpenPacket, WORD};
 use records::registry::Registry;
-use tecmp::head::ENTRY_HEAD;
+use tecmp::head::{ENTRY_HEAD, Stream};
 
 impl<R: Registry> AcceptedEntry<'_, '_, R> {
     // Writes the head of a new packet, where the entry joins none.
-    fn begin(&self, state: State, joined: Option<OpenPacket>, out: &mut [u8])
-        requires { ((packet_for state.extent joined self.now.view.code.data_type).begins + 16 ≤ length out.old) × (state.extent.packets ≤ 16777216) }
-        ensures { out.new ≡ begun state.stream state.extent joined self.now.view.code.data_type out.old }
+    fn begin(&self, stream: Stream, extent: &Extent, joined: Option<OpenPacket>, out: &mut [u8])
+        requires { ((packet_for extent.now joined self.now.view.code.data_type).begins + 16 ≤ length out.old) × (extent.now.packets ≤ 16777216) }
+        ensures { out.new ≡ begun stream extent.now joined self.now.view.code.data_type out.old }
     {
-        let extent = state.extent;
         if joined.is_none() {
             let number = extent.packets + 1;
-            let head = packet_head(state.stream, number, self.view.code.data_type);
+            let head = packet_head(stream, number, self.view.code.data_type);
             put(out, extent.length + WORD, &head);
         }
     }
@@ -45,15 +44,14 @@ impl<R: Registry> AcceptedEntry<'_, '_, R> {
     }
 
     // Writes the entry, which fits, and answers how far the copy then reaches.
-    pub(crate) fn enter(&self, state: State, out: &mut [u8]) -> Extent
-        requires bounded { state.extent.length ≤ 16777216 }
-        requires fits { (after (R.Registry.services self.now.registry.now) state.extent (viewed self.now.view)).length ≤ length out.old }
-        ensures extent { result ≡ after (R.Registry.services self.now.registry.now) state.extent (viewed self.now.view) }
-        ensures output { out.new ≡ put_entry (R.Registry.services self.now.registry.now) state.stream state.extent (viewed self.now.view) out.old }
+    pub(crate) fn enter(&self, stream: Stream, extent: Extent, out: &mut [u8]) -> Extent
+        requires bounded { extent.length ≤ 16777216 }
+        requires fits { (after (R.Registry.services self.now.registry.now) extent (viewed self.now.view)).length ≤ length out.old }
+        ensures extent { result ≡ after (R.Registry.services self.now.registry.now) extent (viewed self.now.view) }
+        ensures output { out.new ≡ put_entry (R.Registry.services self.now.registry.now) stream extent (viewed self.now.view) out.old }
     {
-        let extent = state.extent;
         let joined = extent.joined(self);
-        self.begin(state, joined, out);
+        self.begin(stream, &extent, joined, out);
         let packet = extent.packet_for(joined, self.view.code.data_type);
         self.append(packet, out);
         extent.extend(self)

@@ -68,7 +68,7 @@ impl<'r, R: Registry> CanonicalCopy<'r, R> {
     {
         // in an added entry every offset is 0, as a rule of the format
         let offset = 0;
-        let state = self.state;
+        let state = &self.state;
         if lent != state.capacity {
             return Err(Refusal::OutputLength);
         }
@@ -87,7 +87,7 @@ impl<'r, R: Registry> CanonicalCopy<'r, R> {
                 LookupRefusal::Kind(_) => Refusal::Record { offset },
             },
         )?;
-        if !state.extent.extend(&accepted).fits(state.capacity) {
+        if !state.extent.again().extend(&accepted).fits(state.capacity) {
             return Err(Refusal::OutputFull);
         }
         Ok(accepted)
@@ -106,8 +106,8 @@ impl<'r, R: Registry> CanonicalCopy<'r, R> {
         ensures answer { Adds (R.Registry.services self.old.registry.now) self.old.state out.old (addition data_type interface time_word flags «data».now) result self.new.state out.new }
         ensures registry { self.new.registry ≡ self.old.registry }
     {
-        let state = self.state;
-        let message_type = state.stream.message_type;
+        let stream = self.state.stream;
+        let message_type = stream.message_type;
         let entry = EntryView {
             code: Code {
                 message_type,
@@ -120,7 +120,7 @@ impl<'r, R: Registry> CanonicalCopy<'r, R> {
             data_offset: 0,
         };
         let accepted = self.judge(out.len(), entry)?;
-        self.state.extent = accepted.enter(state, out);
+        self.state.extent = accepted.enter(stream, self.state.extent.again(), out);
         Ok(())
     }
 
@@ -129,12 +129,12 @@ impl<'r, R: Registry> CanonicalCopy<'r, R> {
         ensures answer { emptied result ≡ taken (R.Registry.services self.now.registry.now) self.now.state bytes.now lent }
         ensures packet { IfOk result (λ packet. Taken (R.Registry.services) self.now packet bytes.now) }
     {
-        let state = self.state;
+        let state = &self.state;
         if lent != state.capacity {
             return Err(Refusal::OutputLength);
         }
         let packet = Packet::open(self.registry, Some(state.stream), bytes)?;
-        let reached = survey(&packet, state.extent)?;
+        let reached = survey(&packet, &state.extent)?;
         if !reached.fits(state.capacity) {
             return Err(Refusal::OutputFull);
         }
@@ -147,7 +147,7 @@ impl<'r, R: Registry> CanonicalCopy<'r, R> {
         ensures registry { self.new.registry ≡ self.old.registry }
     {
         let packet = self.judge_packet(out.len(), packet)?;
-        self.state.extent = enter_all(&packet, self.state, out);
+        self.state.extent = enter_all(&packet, self.state.stream, self.state.extent.again(), out);
         Ok(())
     }
 
@@ -155,13 +155,11 @@ impl<'r, R: Registry> CanonicalCopy<'r, R> {
     pub fn close(self, out: &mut [u8]) -> Result<Closed, (Refusal, Self)>
         ensures { ClosedWith (R.Registry.services self.entry.registry.now) self.entry out.old out.new result }
     {
-        // Taken apart first, and a `match` for `map_err`: the checker covers a value with an extent inside neither when it is handed back whole nor in a closure.
-        let CanonicalCopy { registry, state } = self;
-        let closed = match state.closed(out.len()) {
+        let closed = match self.state.closed(out.len()) {
             Ok(closed) => closed,
-            Err(refusal) => return Err((refusal, CanonicalCopy { registry, state })),
+            Err(refusal) => return Err((refusal, self)),
         };
-        let extent = state.extent;
+        let extent = &self.state.extent;
         put(out, extent.length, &WordKind::Closing.word(extent.entries));
         Ok(closed)
     }

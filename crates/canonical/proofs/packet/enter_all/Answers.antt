@@ -23,14 +23,14 @@ checked-entry-requires g c =
     subst (λ (p : Packet _). is_ok (checked_by (g.R.Registry.services p.registry.now e.code) e.flags e.bytes) ≡ true) c.loop-view.invariant.4
     (step g (goal.at.checked-entry-requires g c).In-Some-Ok).accepted
 
-pub enter-extent-requires-clause-fits : goal.enter-extent-requires-clause-fits
-enter-extent-requires-clause-fits g c =
+pub enter-reached-requires-clause-fits : goal.enter-reached-requires-clause-fits
+enter-reached-requires-clause-fits g c =
     let all = g.R.Registry.services in
     let services = all c.args.packet.now.registry.now in
-    let x : Extent = c.loop-view.extent in
+    let x : Extent = c.loop-view.reached in
     let e = viewed c.in-Some-Ok.view in
     let rest = left all c.next.new.self in
-    let i = step g (goal.at.enter-extent-requires-clause-fits g c).In-Some-Ok in
+    let i = step g (goal.at.enter-reached-requires-clause-fits g c).In-Some-Ok in
     let one = listed_more e (left all c.loop-view.entries) rest i.rest c.loop-view.invariant.0 in
     let grows = grows_all services (after services x e) (listed rest) refl in
     let reach = c.loop-view.invariant.2 ∙ ap (after_all services x) one.1 in
@@ -41,8 +41,8 @@ pub loop-view-preserved : goal.loop-view-preserved
 loop-view-preserved g c =
     let all = g.R.Registry.services in
     let services = all c.args.packet.now.registry.now in
-    let stream = c.args.state.stream in
-    let x : Extent = c.loop-view.extent in
+    let stream = c.args.stream in
+    let x : Extent = c.loop-view.reached in
     let out = c.loop-view.out in
     let e = viewed c.in-Some-Ok.view in
     let rest = left all c.next.new.self in
@@ -50,9 +50,9 @@ loop-view-preserved g c =
     let one = listed_more e (left all c.loop-view.entries) rest i.rest c.loop-view.invariant.0 in
     let grows = grows_all services (after services x e) (listed rest) refl in
     let reach = c.loop-view.invariant.2 ∙ ap (after_all services x) one.1 in
-    let extent = c.enter-extent.ensures.extent
+    let extent = c.enter-reached.ensures.extent
     ∙ ap₂ {C = Extent} (λ registry e. after (all registry) x e) c.checked-entry.ensures.registry c.checked-entry.ensures.view in
-    let output = c.enter-extent.ensures.output
+    let output = c.enter-reached.ensures.output
     ∙ ap₂ {C = List ℕ} (λ registry e. put (all registry) stream x e out) c.checked-entry.ensures.registry c.checked-entry.ensures.view in (
       one.0,
       omega (arith, grows, ap (λ (y : Extent). y.length) extent, ap (λ (y : Extent). y.length) reach),

@@ -12,9 +12,9 @@ invariant-loop-view g l =
     let all = listed (packet_entries g.R.Registry.services l.packet 12) in
     let rest = left g.R.Registry.services l.entries in
     (is_ok rest ≡ true)
-    × (l.extent.length ≤ 16777216)
-    × (after_all services l.initial.extent all ≡ after_all services l.extent (listed rest))
-    × (put_all services l.state.stream l.initial.extent all l.initial.out ≡ put_all services l.state.stream l.extent (listed rest) l.out)
+    × (l.reached.length ≤ 16777216)
+    × (after_all services l.fn.extent all ≡ after_all services l.reached (listed rest))
+    × (put_all services l.stream l.fn.extent all l.initial.out ≡ put_all services l.stream l.reached (listed rest) l.out)
     × (l.entries.packet ≡ l.packet)
 
 abbrev pub decreases-loop-view : goal.decreases-loop-view

@@ -1,0 +1,24 @@
+// Cases against the calls on a canonical copy: each line of standard input is a script, and is printed with its answers.
+//   open DIRECTION MODULE LENGTH             a copy into an output of so many bytes, each 0xEE
+//   add TYPE INTERFACE TIME FLAGS BYTES      an entry; TYPE, TIME and FLAGS are hexadecimal
+//   take BYTES                               a packet
+//   close
+//   lend LENGTH                              the next call is lent another output, of so many bytes
+//   packets COUNT                            adds entries of two codes in turn, so that each begins a packet
+// They are joined by ` ; `. A line that begins with `#` is printed as it is.
+#![tactic(auto)]
+
+mod bytes;
+mod report;
+mod script;
+
+fn main(rt: HostRuntime) -> anyhow::Result<()> {
+    for line in rt.lines(rt.alloc()) {
+        let line = line?;
+        println!(rt; "{line}")?;
+        if !line.starts_with('#') {
+            script::run(&rt, line.as_str())?;
+        }
+    }
+    Ok(())
+}
