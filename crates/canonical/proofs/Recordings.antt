@@ -72,9 +72,9 @@ module _ (services : Services) (stream : Stream) (s : List ℕ) (b : Bytes s) wh
           let bp : Bytes packet = All-take (λ x. x < 256) size (drop (at + 4) s) (All-drop (λ x. x < 256) (at + 4) s b) in
           let own : AllByRecursion (Accepted services stream) es =
           subst (AllByRecursion (Accepted services stream)) m.2
-              (All-map (Accepted services stream) (entry_moved (at + 4)) m.0
-              (All-weaker (Accepted services stream) (λ f. Accepted services stream (entry_moved (at + 4) f)) (λ f a. moved_accepted services stream (at + 4) f a) m.0
-              (taken_accepted services stream packet bp m.0 m.1))) in
+          (All-map (Accepted services stream) (entry_moved (at + 4)) m.0
+          (All-weaker (Accepted services stream) (λ f. Accepted services stream (entry_moved (at + 4) f)) (λ f a. moved_accepted services stream (at + 4) f a) m.0
+          (taken_accepted services stream packet bp m.0 m.1))) in
           let rest = further (at + 4 + (size + filling size)) (count + length es) w.0 w.1 in
           let l : length (es ++ flat w.0) ≡ length es + length (flat w.0) = length-append es (flat w.0) in
           subst (λ qs. Good qs count) w.2 (All-append (Accepted services stream) es (flat w.0) own rest.0, omega (arith, rest.1))

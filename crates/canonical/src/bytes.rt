@@ -4,6 +4,7 @@ ghost use Rattle.copy_format.specs.Image.{entry_head, packet_head, counter_of, d
 ghost use Rattle.canonical.specs.States.{spliced};
 ghost use Rattle.canonical.specs.Words.{kind_number};
 
+use copy_format::filling_of;
 use records::code::MessageType;
 use tecmp::head::{Stream, VERSION};
 
@@ -73,13 +74,6 @@ pub(crate) fn put(out: &mut [u8], at: usize, bytes: &[u8])
     ensures { out.new ≡ spliced out.old at bytes.now }
 {
     out[at..at + bytes.len()].copy_from_slice(bytes);
-}
-
-// The zeros after so many bytes, up to a multiple of four.
-pub(crate) fn filling_of(size: usize) -> usize
-    ensures { result ≡ filling size }
-{
-    (4 - size % 4) % 4
 }
 
 pub(crate) fn put_filling(out: &mut [u8], at: usize, size: usize)

@@ -4,16 +4,13 @@ ghost use Rattle.canonical.specs.Calls.{closed};
 ghost use Rattle.canonical.specs.States.{frame, takes_entry, packet_for, joined_in, after};
 ghost use Rattle.tecmp.specs.Views.{viewed};
 
-use crate::bytes::filling_of;
 use crate::entry::AcceptedEntry;
+use copy_format::{WORD, filling_of};
 use records::refusal::Refusal;
 use records::registry::Registry;
 use std::marker::Model;
 use tecmp::head::{PACKET_LIMIT, Stream};
 use tecmp::packet::FIRST_ENTRY;
-
-// The bytes of a packet's word.
-pub(crate) const WORD: usize = 4;
 
 // The last packet, which entries may still join: where its word stands, its bytes so far, its data type.
 // Places in the output here and in `Extent` are numbers, not slices, since the output is lent at each call.

@@ -6,7 +6,8 @@ ghost use Rattle.canonical.specs.States.{appended, frame, packet_for, begun, aft
 
 use crate::bytes::{WordKind, entry_head, packet_head, put, put_filling};
 use crate::entry::AcceptedEntry;
-use crate::state::{Extent, OpenPacket, WORD};
+use crate::state::{Extent, OpenPacket};
+use copy_format::WORD;
 use records::registry::Registry;
 use tecmp::head::{ENTRY_HEAD, Stream};
 

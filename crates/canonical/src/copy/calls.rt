@@ -11,7 +11,8 @@ use super::CanonicalCopy;
 use crate::bytes::{WordKind, put};
 use crate::entry::AcceptedEntry;
 use crate::packet::{enter_all, survey};
-use crate::state::{Closed, Extent, State, WORD};
+use crate::state::{Closed, Extent, State};
+use copy_format::{LARGEST_COPY, WORD};
 use records::code::{Code, MessageType};
 use records::kind::DATA_LIMIT;
 use records::refusal::{LookupRefusal, Refusal};
@@ -19,8 +20,6 @@ use records::registry::Registry;
 use tecmp::entry::{EntryView, has_time, time_of};
 use tecmp::head::{LAST_MODULE, Stream};
 use tecmp::packet::Packet;
-
-const LARGEST_OUTPUT: usize = 16_777_216;
 
 // Logged copies are of a module up to 255, replay copies of module 0. Both are numbers, since others are refused.
 fn stream_of(direction: u8, module: u16) -> Option<Stream>
@@ -45,7 +44,7 @@ impl<'r, R: Registry> CanonicalCopy<'r, R> {
     {
         let stream = stream_of(direction, module).ok_or(Refusal::Opening)?;
         let capacity = out.len();
-        if !(WORD..=LARGEST_OUTPUT).contains(&capacity) {
+        if !(WORD..=LARGEST_COPY).contains(&capacity) {
             return Err(Refusal::OutputLength);
         }
         let state = State {

@@ -37,7 +37,7 @@ fn meaning(refusal: Refusal) -> &'static str
         Refusal::Segmented => "a logged packet that is a segment of a message",
         Refusal::UnknownCode => "no record kind serves this message type and data type",
         Refusal::PastEnd { .. } =>
-            "the entry passes the end, or the offset lies outside the packet",
+            "the entry passes the end of the packet, or none can begin here",
         Refusal::NoData { .. } => "an entry of length 0",
         Refusal::NoTime { .. } => "a logged entry without a time",
         Refusal::NotShared { .. } => "a second entry, of a code that does not share packets",
