@@ -1,6 +1,7 @@
 pub mod Accepted
 pub mod Again
 pub mod Appends
+pub mod Beyond
 pub mod Encodings
 pub mod Growth
 pub mod Holds

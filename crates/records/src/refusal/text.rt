@@ -36,8 +36,7 @@ fn meaning(refusal: Refusal) -> &'static str
         Refusal::Module => "the module of a logged packet is over 255, or not the stream's",
         Refusal::Segmented => "a logged packet that is a segment of a message",
         Refusal::UnknownCode => "no record kind serves this message type and data type",
-        Refusal::PastEnd { .. } =>
-            "the entry passes the end of the packet, or none can begin here",
+        Refusal::PastEnd { .. } => "the entry passes the end of the packet, or none can begin here",
         Refusal::NoData { .. } => "an entry of length 0",
         Refusal::NoTime { .. } => "a logged entry without a time",
         Refusal::NotShared { .. } => "a second entry, of a code that does not share packets",
