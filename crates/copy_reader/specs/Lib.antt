@@ -1,0 +1,4 @@
+pub mod Cursors
+pub mod Parts
+pub mod Passing
+pub mod Readers
