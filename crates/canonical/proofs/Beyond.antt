@@ -13,7 +13,7 @@ use Rattle.canonical.specs.declared.state.OpenPacket.{OpenPacket}
 use Rattle.canonical.proofs.Growth.{grows_all}
 use Rattle.canonical.proofs.Places.{length-spliced, length_two}
 
-drop_spliced : (out xs : List ℕ) (p k : ℕ) → p + length xs ≤ length out → p + length xs ≤ k → drop k (spliced out p xs) ≡ drop k out
+pub drop_spliced : (out xs : List ℕ) (p k : ℕ) → p + length xs ≤ length out → p + length xs ≤ k → drop k (spliced out p xs) ≡ drop k out
 drop_spliced out xs p k fits far =
     let n : ℕ = p + length xs in
     let l : length (take p out ++ xs) ≡ n = length-append (take p out) xs ∙ ap (λ m. m + length xs) (length-take-le p out (omega arith)) in

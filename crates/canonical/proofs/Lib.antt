@@ -3,6 +3,7 @@ pub mod Again
 pub mod Appends
 pub mod Beyond
 pub mod Encodings
+pub mod Entered
 pub mod Growth
 pub mod Holds
 pub mod Laws
@@ -12,6 +13,7 @@ pub mod Ranges
 pub mod ReadsBack
 pub mod Ready
 pub mod Recopied
+pub mod Recopies
 pub mod Recordings
 pub mod Same
 pub mod Splices

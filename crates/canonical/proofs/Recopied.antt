@@ -1,5 +1,5 @@
 -- Recopying: a canonical copy is its own, and recordings have one canonical copy exactly where they say the same. Assumes nothing.
-use Rattle.std.proofs.Common.{◌≡◌, ℕ, ◌+◌, ◌<◌, ◌≤◌, ◌&&◌, leb, List, [], ◌∷◌, map, length, Ok, refl, sym, ap, ap₂, ◌∙◌, subst, arith}
+use Rattle.std.proofs.Common.{◌≡◌, ℕ, ◌≤◌, ◌&&◌, leb, List, [], ◌∷◌, map, length, Ok, refl, sym, ap, ap₂, ◌∙◌, arith}
 use Rattle.std.specs.List.{AllByRecursion}
 use Rattle.std.proofs.lemmas.List.{length-map}
 use Rattle.std.proofs.lemmas.Bool.{and_parts, leb-true}
@@ -10,16 +10,14 @@ use Rattle.records.specs.declared.code.Code.{Code}
 use Rattle.records.specs.declared.refusal.Refusal.TheVariants.{OutputFull, OutputLength}
 use Rattle.records.proofs.Tested.{passed}
 use Rattle.tecmp.specs.Reading.{Entry}
-use Rattle.tecmp.specs.Statements.{stated}
 use Rattle.tecmp.specs.declared.head.Stream.{Stream}
 use Rattle.copy_format.specs.Cutting.{cut}
 use Rattle.copy_format.specs.Image.{packet_limit, packets_of, copy_of, image}
-use Rattle.copy_format.specs.Items.{Item, item_of, allowed, sharing}
+use Rattle.copy_format.specs.Items.{item_of, allowed, sharing}
 use Rattle.copy_format.specs.ReadingBack.{without_offset, Contents, entries_of, read_back}
 use Rattle.copy_format.proofs.PacketsRead.{Narrow}
 use Rattle.canonical.specs.Law.{canonical_entry}
-use Rattle.canonical.specs.Recopying.{canonical_bytes, closed_of, recopied_into, recopied, SameAgain, OneCopy}
-use Rattle.canonical.specs.declared.state.Closed.{Closed}
+use Rattle.canonical.specs.Recopying.{canonical_bytes, closed_of, recopied_into, SameAgain, OneCopy}
 use Rattle.canonical.proofs.Accepted.{Accepted}
 use Rattle.canonical.proofs.Again.{items_again}
 use Rattle.canonical.proofs.ReadsBack.{contents, image_reads, contents_are}

@@ -1,24 +1,23 @@
 -- What is read back of a recording are entries that a copy of its stream accepts. Assumes nothing.
-use Rattle.std.proofs.Common.{◌≡◌, ℕ, zero, suc, ◌+◌, ◌<◌, ◌≤◌, Bool, true, false, not, ◌||◌, ◌&&◌, eqb, ltb, leb, List, [], ◌∷◌, ◌++◌, map, length, take, drop, Some, None, Option, Ok, Err, cond, sym, refl, ap, ◌∙◌, subst, arith}
+use Rattle.std.proofs.Common.{◌≡◌, ℕ, zero, suc, ◌+◌, ◌<◌, Bool, true, false, not, ◌||◌, ◌&&◌, eqb, ltb, leb, List, [], ◌∷◌, ◌++◌, map, length, take, drop, Some, Option, Ok, Err, cond, sym, refl, ap, ◌∙◌, subst, arith}
 use Rattle.std.specs.List.{AllByRecursion}
 use Rattle.std.proofs.ByRecursion.{All-map, All-weaker, All-append, All-take, All-drop}
 use Rattle.std.proofs.lemmas.List.{length-append}
 use Rattle.std.proofs.lemmas.Bool.{and_parts, ltb-true, leb-true, eqb-true}
 use Rattle.records.specs.Services.{Services}
-use Rattle.records.specs.Tests.{tested, Passed, and_then}
+use Rattle.records.specs.Tests.{Passed, and_then}
 use Rattle.records.specs.Verdicts.{Bytes}
-use Rattle.records.specs.declared.code.MessageType.{MessageType}
 use Rattle.records.specs.declared.code.MessageType.TheVariants.{LoggingStream, ReplayData}
 use Rattle.records.specs.declared.refusal.Refusal.TheVariants.{MalformedCopy, OutputLength}
 use Rattle.records.proofs.Tested.{passed}
 use Rattle.tecmp.specs.Entries.{Entries, entries, entries_from}
 use Rattle.tecmp.specs.Heads.{read_of}
-use Rattle.tecmp.specs.Layout.{type_byte, message_type, device_id, code_of}
+use Rattle.tecmp.specs.Layout.{message_type, device_id, code_of}
 use Rattle.tecmp.specs.Reading.{Entry, head_tests, is_logged}
 use Rattle.tecmp.specs.declared.head.Stream.{Stream}
 use Rattle.copy_format.specs.Cutting.{flat}
 use Rattle.copy_format.specs.Image.{filling}
-use Rattle.copy_format.specs.ReadingBack.{entry_moved, all_moved, Part, packet_of, closing, malformed, part_of, Packets, with_packet, first_packet, stream_in, stream_of, onward, packets_in, packets_from, Contents, entries_of, read_back}
+use Rattle.copy_format.specs.ReadingBack.{entry_moved, all_moved, Part, packet_of, closing, malformed, part_of, Packets, with_packet, first_packet, stream_in, onward, packets_in, packets_from, Contents, entries_of, read_back}
 use Rattle.copy_format.proofs.PacketsRead.{Narrow}
 use Rattle.copy_format.proofs.Words.{by_words}
 use Rattle.canonical.proofs.Accepted.{Accepted}

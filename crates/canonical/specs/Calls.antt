@@ -24,11 +24,14 @@ stream_of None device = None
 stream_of (Some LoggingStream) device = cond (nat_le device 255) (Some (record { message_type = LoggingStream; «module» = device })) None
 stream_of (Some ReplayData) device = cond (device == 0) (Some (record { message_type = ReplayData; «module» = device })) None
 
--- into an output of so many bytes
+-- an output of so many bytes
+abbrev pub may_open : ℕ → Bool
+may_open lent = nat_le 4 lent && nat_le lent 16777216
+
 abbrev pub opened_into : ℕ → Option Stream → Result State Refusal
 opened_into lent None = Err Opening
 opened_into lent (Some stream) =
-    tested ((nat_le 4 lent && nat_le lent 16777216, OutputLength) ∷ []) (Ok (record { stream = stream; capacity = lent; extent = nothing }))
+    tested ((may_open lent, OutputLength) ∷ []) (Ok (record { stream = stream; capacity = lent; extent = nothing }))
 
 abbrev pub opened : ℕ → ℕ → ℕ → Result State Refusal
 opened direction device lent = opened_into lent (stream_of (type_of direction) device)

@@ -1,14 +1,21 @@
 -- Recopying: the canonical copy of a recording, which is a copy however it was written.
-use Rattle.std.specs.Prelude.{◌≡◌, ℕ, ◌≤◌, ◌&&◌, List, [], ◌∷◌, ◌++◌, map, length, drop, Ok, Err, Result, nat_le}
-use Rattle.records.specs.Services.{Services}
+use Rattle.std.specs.Prelude.{◌≡◌, ℕ, ◌≤◌, true, List, [], ◌∷◌, ◌++◌, map, length, drop, is_ok, Ok, Err, Result, nat_le}
+use Rattle.std.specs.List.{AllByRecursion}
+use Rattle.records.specs.Services.{Services, checked_by}
 use Rattle.records.specs.Tests.{tested, and_then}
 use Rattle.records.specs.Verdicts.{Bytes}
 use Rattle.records.specs.declared.refusal.Refusal.{Refusal}
 use Rattle.records.specs.declared.refusal.Refusal.TheVariants.{OutputFull, OutputLength}
+use Rattle.tecmp.specs.Reading.{Entry}
 use Rattle.tecmp.specs.Statements.{stated}
 use Rattle.copy_format.specs.Image.{packets_of, image}
 use Rattle.copy_format.specs.ReadingBack.{Contents, entries_of, read_back}
+use Rattle.canonical.specs.Calls.{may_open}
 use Rattle.canonical.specs.declared.state.Closed.{Closed}
+
+-- entries that the registry serves and accepts
+abbrev pub Served : Services → List Entry → Type 0
+Served services es = AllByRecursion (λ e. is_ok (checked_by (services e.code) e.flags e.bytes) ≡ true) es
 
 -- the bytes of the canonical copy of what a recording holds, opened as the recording
 abbrev pub canonical_bytes : Services → Contents → List ℕ
@@ -24,15 +31,18 @@ closed_of services k = record {
 -- into an output of so many bytes: first what reading back refuses, then the output's length, then the room
 abbrev pub recopied_into : Services → ℕ → Contents → Result Closed Refusal
 recopied_into services lent k =
-    tested ((nat_le 4 lent && nat_le lent 16777216, OutputLength) ∷ (nat_le (length (canonical_bytes services k)) lent, OutputFull) ∷ []) (Ok (closed_of services k))
+    tested ((may_open lent, OutputLength) ∷ (nat_le (length (canonical_bytes services k)) lent, OutputFull) ∷ []) (Ok (closed_of services k))
 
 abbrev pub recopied : Services → List ℕ → ℕ → Result Closed Refusal
 recopied services recording lent = and_then (read_back services recording) (recopied_into services lent)
 
 -- the output then: the copy's bytes in front, and what was behind them as it was; or, refused, all as it was
+abbrev pub Written : Services → Result Contents Refusal → Closed → List ℕ → List ℕ → Type 0
+Written services (Ok k) c out out' = out' ≡ canonical_bytes services k ++ drop c.bytes out
+Written services (Err refusal) c out out' = ⊥
+
 abbrev pub Holds : Services → Result Contents Refusal → Result Closed Refusal → List ℕ → List ℕ → Type 0
-Holds services (Ok k) (Ok c) out out' = out' ≡ canonical_bytes services k ++ drop c.bytes out
-Holds services (Err refusal) (Ok c) out out' = ⊥
+Holds services contents (Ok c) out out' = Written services contents c out out'
 Holds services contents (Err refusal) out out' = out' ≡ out
 
 abbrev pub Recopies : Services → List ℕ → List ℕ → Result Closed Refusal → List ℕ → Type 0

@@ -1,11 +1,11 @@
 // What a copy keeps of what it has written.
 ghost use Rattle.std.specs.Prelude.{◌≡◌, ◌+◌, ◌≤◌, nat_le};
-ghost use Rattle.canonical.specs.Calls.{closed};
+ghost use Rattle.canonical.specs.Calls.{may_open, closed};
 ghost use Rattle.canonical.specs.States.{frame, takes_entry, packet_for, joined_in, after};
 ghost use Rattle.tecmp.specs.Views.{viewed};
 
 use crate::entry::AcceptedEntry;
-use copy_format::{WORD, filling_of};
+use copy_format::{LARGEST_COPY, WORD, filling_of};
 use records::refusal::Refusal;
 use records::registry::Registry;
 use std::marker::Model;
@@ -61,6 +61,13 @@ pub struct Closed {
     pub packets: u32,
 }
 
+// Whether a copy may be opened in an output of so many bytes.
+pub(crate) fn may_open(length: usize) -> bool
+    ensures { result ≡ may_open length }
+{
+    (WORD..=LARGEST_COPY).contains(&length)
+}
+
 impl OpenPacket {
     // Whether an entry joins it: the code is the same, shares, and the packet stays within the limit. In a copy the sum never saturates; written so, `takes` need not ask that the packet is small.
     fn takes<R: Registry>(self, entry: &AcceptedEntry<'_, '_, R>) -> bool
@@ -85,11 +92,7 @@ impl State {
         if extent.entries == 0 {
             return Err(Refusal::NoEntries);
         }
-        Ok(Closed {
-            bytes: extent.length + WORD,
-            entries: extent.entries,
-            packets: extent.packets,
-        })
+        Ok(extent.closing())
     }
 }
 
@@ -131,6 +134,18 @@ impl Extent {
             size: FIRST_ENTRY,
             data_type,
         })
+    }
+
+    // What closing answers.
+    pub(crate) fn closing(&self) -> Closed
+        requires { self.now.length ≤ 16777216 }
+        ensures { result ≡ record { bytes = self.now.length + 4; entries = self.now.entries; packets = self.now.packets } }
+    {
+        Closed {
+            bytes: self.length + WORD,
+            entries: self.entries,
+            packets: self.packets,
+        }
     }
 
     // Whether the copy with a closing word fits an output of so many bytes.

@@ -11,8 +11,7 @@ use super::CanonicalCopy;
 use crate::bytes::{WordKind, put};
 use crate::entry::AcceptedEntry;
 use crate::packet::{enter_all, survey};
-use crate::state::{Closed, Extent, State};
-use copy_format::{LARGEST_COPY, WORD};
+use crate::state::{Closed, Extent, State, may_open};
 use records::code::{Code, MessageType};
 use records::kind::DATA_LIMIT;
 use records::refusal::{LookupRefusal, Refusal};
@@ -44,7 +43,7 @@ impl<'r, R: Registry> CanonicalCopy<'r, R> {
     {
         let stream = stream_of(direction, module).ok_or(Refusal::Opening)?;
         let capacity = out.len();
-        if !(WORD..=LARGEST_COPY).contains(&capacity) {
+        if !may_open(capacity) {
             return Err(Refusal::OutputLength);
         }
         let state = State {

@@ -42,6 +42,16 @@ impl<'r, 'c, R: Registry> CopyReader<'r, 'c, R> {
     {
         self.cursor.stream
     }
+
+    // A reader of the same entries.
+    pub fn again(&self) -> Self
+        ensures left { left result ≡ left self.now }
+        ensures stream { stream_of result ≡ stream_of self.now }
+    {
+        CopyReader {
+            cursor: self.cursor,
+        }
+    }
 }
 
 impl<'r, 'c, R: Registry> Iterator for CopyReader<'r, 'c, R> {
