@@ -1,5 +1,5 @@
 // Recopying: the canonical copy of a recording, which is a copy however it was written.
-ghost use Rattle.std.specs.Prelude.{◌≡◌, ◌+◌, ◌≤◌, length, nat_le};
+ghost use Rattle.std.specs.Prelude.{◌≡◌, ◌+◌, ◌≤◌, length, nat_le, IfOk};
 ghost use Rattle.copy_reader.specs.Readers.{left};
 ghost use Rattle.canonical.specs.Recopying.{Recopies, Served, SameAgain, OneCopy};
 ghost use Rattle.canonical.specs.States.{nothing, after_all, put_all};
@@ -55,6 +55,7 @@ pub fn recopy<R: Registry>(
     out: &mut [u8],
 ) -> Result<Closed, Refusal>
     ensures copy { Recopies (R.Registry.services registry.now) recording.now out.old result out.new }
+    ensures within { IfOk result (λ closed. closed.bytes ≤ length out.old) }
     ensures again { SameAgain (R.Registry.services registry.now) }
     ensures one { OneCopy (R.Registry.services registry.now) }
 {

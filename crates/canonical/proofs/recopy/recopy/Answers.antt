@@ -1,4 +1,4 @@
-use Rattle.std.proofs.Common.{◌≡◌, ℕ, ◌+◌, ◌<◌, true, false, leb, List, length, sym, ap, ap₂, ◌∙◌, subst}
+use Rattle.std.proofs.Common.{◌≡◌, ℕ, ◌+◌, ◌<◌, true, false, leb, List, length, sym, ap, ap₂, ◌∙◌, subst, arith}
 use Rattle.std.proofs.ByRecursion.{All-from_get_or}
 use Rattle.std.proofs.lemmas.Result.{err_from_is_err_and}
 use Rattle.std.proofs.lemmas.Bool.{leb-true}
@@ -6,6 +6,7 @@ use Rattle.copy_format.specs.Cutting.{flat}
 use Rattle.copy_format.specs.Image.{word}
 use Rattle.canonical.specs.Calls.{may_open, closing}
 use Rattle.canonical.specs.Extents.{Extent}
+use Rattle.canonical.specs.declared.state.Closed.{Closed}
 use Rattle.canonical.specs.Recopying.{Served}
 use Rattle.canonical.specs.States.{nothing, spliced, after_all, put_all}
 use Rattle.canonical.proofs.Recopied.{same_again, one_copy}
@@ -19,6 +20,7 @@ returns-in_err-entries g c =
     let p = err_from_is_err_and c.from_residual.result c.from_residual.ensures.1 in
     record {
       copy = rw (p.1, p.2) (not_read services c.args.recording.now c.args.out.now c.in_err-entries.field-0.0 c.in_err-entries.ensures);
+      within = rw p.1 tt;
       again = same_again services law;
       one = one_copy services law;
     }
@@ -31,6 +33,7 @@ returns-then-not-may_open g c =
     let wrong : may_open (length c.args.out.now) ≡ false = let e = c.may_open.ensures in let h = c.if-not-may_open.true in cc in
     record {
       copy = wrong_length services law c.args.recording.now bytes _ c.in_ok-entries.ensures.1 c.args.out.now wrong;
+      within = tt;
       again = same_again services law;
       one = one_copy services law;
     }
@@ -54,6 +57,7 @@ returns-then-not-fits g c =
     let same = ap (λ es. leb ((after_all services nothing es).length + 4) (length c.args.out.now)) (sym (c.again.ensures.left ∙ read.2)) ∙ sym c.fits.ensures ∙ full in
     record {
       copy = no_room services law c.args.recording.now bytes _ read.1 c.args.out.now right same;
+      within = tt;
       again = same_again services law;
       one = one_copy services law;
     }
@@ -93,6 +97,7 @@ returns g c =
     ∙ ap (λ p. spliced p (after_all services nothing (flat read.0)).length (word 2 (after_all services nothing (flat read.0)).entries)) filled in
     record {
       copy = copied_as services law c.args.recording.now bytes _ read.1 out right room _ _ closings outputs;
+      within = omega (arith, ap (λ (x : Closed). x.bytes) closings, leb-true _ _ room);
       again = same_again services law;
       one = one_copy services law;
     }
