@@ -17,11 +17,12 @@ const HELP: &str = "usage: compare FIRST SECOND
 
 Reads two files, each one TECMP packet. Prints of each its module, the number of
 its entries, and of every entry interface, time and what it says in the units of
-the bench (of an analog record sample period and values, as `0.5 A`); then `same
-load`, or `different load` with the first entry and field that differ. Two
-packets hold the same load if their entries agree in number, order, code,
-interface, time and what they say, however it is encoded. A refused packet is
-named with the refusal's number, its meaning and offset.
+the bench (of an analog record sample period and values, as `0.5 A`), and how
+long its canonical copy is; then `same load`, or `different load` with the first
+entry and field that differ. Two packets hold the same load if their entries
+agree in number, order, code, interface, time and what they say, however it is
+encoded. A refused packet is named with the refusal's number, its meaning and
+offset.
 
 Status: 0 for the same load; 1 for another, a refused packet or a file error.";
 
