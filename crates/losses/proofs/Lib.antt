@@ -1,0 +1,5 @@
+pub mod Halving
+pub mod Laws
+pub mod Notings
+pub mod Opened
+pub mod Places

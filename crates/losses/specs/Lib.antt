@@ -1,0 +1,11 @@
+pub mod Buses
+pub mod BusLaw
+pub mod Log
+pub mod Modules
+pub mod ModuleLaw
+pub mod Order
+pub mod Places
+pub mod Refusals
+pub mod Rows
+pub mod Tables
+pub mod Totals
