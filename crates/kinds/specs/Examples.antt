@@ -10,6 +10,10 @@ use Rattle.kind_bytes.specs.Examples.{BytesExamples}
 use Rattle.kind_can.specs.Examples.{CanExamples}
 use Rattle.kind_flexray.specs.Examples.{FlexRayExamples}
 use Rattle.kind_lin.specs.Examples.{LinExamples}
+use Rattle.copy_format.specs.Image.{image}
+use Rattle.records.specs.Codes.{code_with}
+use Rattle.records.specs.declared.code.MessageType.TheVariants.{LoggingStream}
+use Rattle.tecmp.specs.Reading.{Entry}
 use Rattle.kinds.specs.Table.{standard_service}
 
 abbrev pub analog : ℕ → List ℕ → Verdict
@@ -43,5 +47,26 @@ PacketExamples =
     (counted 0 (entries standard_service None (packet43 ++ replicate 3 0)) ≡ Ok 1)
     × (entries standard_service None (packet43 ++ replicate 4 0) ≡ Err (Padding 43))
 
+-- a reading of an ampere each second, on interface 7 at time 1
+abbrev pub reading : ℕ → ℕ → Entry
+reading flags sample = record { code = code_with LoggingStream 0x20; interface = 7; time = 1; flags = flags; bytes = 0 ∷ sample ∷ []; from = 0 }
+
+-- its canonical copy, of module 64
+abbrev pub copy_of_one : Entry → List ℕ
+copy_of_one e = image standard_service (record { message_type = LoggingStream; «module» = 64 }) (e ∷ [])
+
+-- ten words
+abbrev pub forty_bytes : List ℕ
+forty_bytes =
+    (0x10 ∷ 0 ∷ 0 ∷ 0x1E ∷ 0 ∷ 0x40 ∷ 0 ∷ 1 ∷ 3 ∷ 3 ∷ 0 ∷ 0x20 ∷ 0 ∷ 0 ∷ 0 ∷ 0x0F ∷ [])
+    ++ (0 ∷ 0 ∷ 0 ∷ 7 ∷ 0 ∷ 0 ∷ 0 ∷ 0 ∷ 0 ∷ 0 ∷ 0 ∷ 1 ∷ 0 ∷ 2 ∷ 0x10 ∷ 4 ∷ [])
+    ++ (0 ∷ 5 ∷ 0 ∷ 0 ∷ 0x20 ∷ 0 ∷ 0 ∷ 1 ∷ [])
+
+abbrev pub CopyExamples : Type 0
+CopyExamples =
+    -- 50 hundredths of an ampere; 5 tenths are the same load, and the same bytes
+    (copy_of_one (reading 0x1084 50) ≡ forty_bytes)
+    × (copy_of_one (reading 0x1004 5) ≡ forty_bytes)
+
 abbrev pub Examples : Type 0
-Examples = AnalogExamples × CanExamples × LinExamples × FlexRayExamples × BytesExamples × PacketExamples
+Examples = AnalogExamples × CanExamples × LinExamples × FlexRayExamples × BytesExamples × PacketExamples × CopyExamples
