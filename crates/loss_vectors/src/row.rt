@@ -3,7 +3,7 @@ use anyhow::anyhow;
 use losses::{BusRow, EntryNoted, ModuleRow, PacketNoted, Tally};
 use std::io;
 
-pub trait Scripted: Tally {
+pub(crate) trait Scripted: Tally {
     // The noting of these words.
     fn noting(key: &str, number: &str) -> anyhow::Result<Self::Noting>;
 

@@ -4,7 +4,7 @@ use anyhow::anyhow;
 use losses::{BusRow, ModuleRow, Table, TableRefusal};
 use std::io;
 
-pub fn run(rt: &HostRuntime, line: &str) -> anyhow::Result<()> {
+pub(crate) fn run(rt: &HostRuntime, line: &str) -> anyhow::Result<()> {
     let Some((table, calls)) = line.split_once(" ; ") else {
         return Err(anyhow!("a script has a table and calls"));
     };
