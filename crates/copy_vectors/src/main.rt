@@ -5,10 +5,13 @@
 //   close
 //   lend LENGTH                              the next call is lent another output, of so many bytes
 //   packets COUNT                            adds entries of two codes in turn, so that each begins a packet
-// They are joined by ` ; `. A line that begins with `#` is printed as it is.
+//   read BYTES                               a recording is read back: its stream, and its entries one by one
+//   recopy BYTES LENGTH                      the canonical copy of a recording, into an output of so many bytes, each 0xEE
+// They are joined by ` ; `; the last two are calls on no copy. A line that begins with `#` is printed as it is.
 #![tactic(auto)]
 
 mod bytes;
+mod recording;
 mod report;
 mod script;
 

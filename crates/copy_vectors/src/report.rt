@@ -2,31 +2,47 @@
 use canonical::state::Closed;
 use records::{Numbered, Refusal};
 use std::io;
+use tecmp::entry::EntryView;
+use tecmp::head::Stream;
 
 // Longer copies are printed by a checksum and their last words.
 const SHORT: usize = 8_192;
 
 const LAST: usize = 80;
 
-pub fn print_done(rt: &HostRuntime, call: &str) -> io::Result<()> {
+// Longer data is printed by its length and a checksum.
+const SHORT_DATA: usize = 40;
+
+pub(crate) fn print_done(rt: &HostRuntime, call: &str) -> io::Result<()> {
     println!(rt; "  {call}: ok")
 }
 
 // Whether the output is as it was is what the script has seen, and not what the call says.
-pub fn print_refusal(rt: &HostRuntime, call: &str, refusal: Refusal, same: bool) -> io::Result<()> {
+pub(crate) fn print_refusal(
+    rt: &HostRuntime,
+    call: &str,
+    refusal: Refusal,
+    same: bool,
+) -> io::Result<()> {
     let number = refusal.number();
     let offset = refusal.offset();
     let output = if same { "as it was" } else { "CHANGED" };
     println!(rt; "  {call}: refused with {number} at {offset}, the output is {output}")
 }
 
-pub fn print_closed(rt: &HostRuntime, closed: Closed, out: &[u8], unwritten: u8) -> io::Result<()> {
+pub(crate) fn print_closed(
+    rt: &HostRuntime,
+    call: &str,
+    closed: Closed,
+    out: &[u8],
+    unwritten: u8,
+) -> io::Result<()> {
     let Closed {
         bytes,
         entries,
         packets,
     } = closed;
-    println!(rt; "  close: ok, {bytes} bytes, {entries} entries, {packets} packets")?;
+    println!(rt; "  {call}: ok, {bytes} bytes, {entries} entries, {packets} packets")?;
     let Some((copy, rest)) = out.split_at_checked(bytes) else {
         return println!(rt; "  it is LONGER than the output");
     };
@@ -39,6 +55,40 @@ pub fn print_closed(rt: &HostRuntime, closed: Closed, out: &[u8], unwritten: u8)
     let checksum = checksum(copy);
     print!(rt; "   {checksum:08x} ..")?;
     print_words(rt, &copy[copy.len() - LAST..])
+}
+
+// Of a recording that was read back.
+pub(crate) fn print_stream(rt: &HostRuntime, stream: Stream, entries: usize) -> io::Result<()> {
+    let Stream {
+        message_type,
+        module,
+    } = stream;
+    let direction = u8::from(message_type);
+    println!(rt; "  read: ok, direction {direction}, module {module}, {entries} entries")
+}
+
+// In the order of the call `add`, with the place of its data in the recording.
+pub(crate) fn print_entry(rt: &HostRuntime, entry: &EntryView<'_>) -> io::Result<()> {
+    let EntryView {
+        code,
+        interface,
+        time,
+        flags,
+        data,
+        data_offset,
+    } = *entry;
+    let data_type = code.data_type;
+    print!(rt; "    {data_type:02x} {interface} {time:x} {flags:04x} ")?;
+    if data.len() <= SHORT_DATA {
+        for byte in data {
+            print!(rt; "{byte:02x}")?;
+        }
+    } else {
+        let length = data.len();
+        let checksum = checksum(data);
+        print!(rt; "{length} bytes, {checksum:08x}")?;
+    }
+    println!(rt; " at {data_offset}")
 }
 
 // FNV-1a, of 32 bits.

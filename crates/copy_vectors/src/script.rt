@@ -1,5 +1,6 @@
 // A script: a copy, its output, and what is lent in the output's place at the next call.
 use crate::bytes::{read_bytes, read_number};
+use crate::recording::{print_read, print_recopied};
 use crate::report::{print_closed, print_done, print_refusal};
 use anyhow::anyhow;
 use canonical::CanonicalCopy;
@@ -8,7 +9,7 @@ use records::Refusal;
 use std::alloc::Global;
 
 // What an output holds before a copy is written to it.
-const UNWRITTEN: u8 = 0xee;
+pub(crate) const UNWRITTEN: u8 = 0xee;
 
 type Copy<'r> = CanonicalCopy<'r, Standard>;
 
@@ -20,7 +21,7 @@ struct Script<'r> {
     lent: Option<Vec<u8>>,
 }
 
-pub fn run(rt: &HostRuntime, line: &str) -> anyhow::Result<()> {
+pub(crate) fn run(rt: &HostRuntime, line: &str) -> anyhow::Result<()> {
     let alloc = rt.alloc();
     let mut script = Script {
         registry: &STANDARD,
@@ -85,6 +86,11 @@ impl<'r> Script<'r> {
                 Ok(())
             }
             ["close"] => self.close(rt),
+            ["read", bytes] => print_read(rt, &read_bytes(rt.alloc(), bytes)?),
+            ["recopy", bytes, length] => {
+                let mut out = unwritten(rt.alloc(), length)?;
+                print_recopied(rt, &read_bytes(rt.alloc(), bytes)?, &mut out)
+            }
             _ => self.enter(rt, words),
         }
     }
@@ -123,7 +129,7 @@ impl<'r> Script<'r> {
         let out = lent.as_mut().unwrap_or(&mut self.out);
         let before = out.clone()?;
         match copy.close(out) {
-            Ok(closed) => print_closed(rt, closed, out, UNWRITTEN)?,
+            Ok(closed) => print_closed(rt, "close", closed, out, UNWRITTEN)?,
             Err((refusal, back)) => {
                 self.copy = Some(back);
                 print_refusal(rt, "close", refusal, *out == before)?;
