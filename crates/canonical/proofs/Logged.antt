@@ -18,7 +18,7 @@ use Rattle.copy_format.specs.Cutting.{flat}
 use Rattle.copy_format.specs.Image.{packets_of, body, word}
 use Rattle.copy_format.specs.Items.{item_of}
 use Rattle.copy_format.proofs.Cuts.{flat-cut}
-use Rattle.copy_format.proofs.Lengths.{length-word}
+use Rattle.copy_format.proofs.Lengths.{length-word, length-copy}
 use Rattle.canonical.specs.Calls.{stream_of, Addition, Typed, entry_of, reaching, Leaves, add_tests, room, taken, listed, entries_in, closing, Closes}
 use Rattle.canonical.specs.Log.{Log, open_done, add, take_packet, close_refused, add_elsewhere, take_elsewhere, close_elsewhere, accepted_if, Faithful}
 use Rattle.canonical.specs.States.{spliced, after_all, put_all}
@@ -113,6 +113,7 @@ module _ (services : Services) (law : (code : Code) → LawfulService (services 
       → Faithful services s es (closing s) out'
   faithful_closing s out out' es st w = record {
     bytes = ap (take (s.extent.length + 4)) w ∙ closed_bytes s out es st ∙ ap (λ n. body s.stream 1 (packets_of services s.stream es) ++ word 2 n) (counted s out es st);
+    size = ap (λ n. n + 4) st.holds.reaches ∙ sym (length-copy s.stream (packets_of services s.stream es));
     entries = st.holds.entries_are;
     packets = st.holds.packets_are;
   }

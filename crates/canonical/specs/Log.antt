@@ -38,5 +38,6 @@ pub data Log (services : Services) : State → List ℕ → List Entry → Type 
 -- a closed copy: its bytes are the canonical copy of the entries accepted, and it answers their number and that of its packets
 pub record Faithful (services : Services) (s : State) (es : List Entry) (c : Closed) (out : List ℕ) : Type 0 where
   pub bytes : take c.bytes out ≡ image services s.stream es
+  pub size : c.bytes ≡ length (image services s.stream es)
   pub entries : c.entries ≡ length es
   pub packets : c.packets ≡ length (packets_of services s.stream es)

@@ -134,13 +134,22 @@ module _ {R N : Type 0} (key : R → ℕ) (row : N → List N → R) (next : R �
       ∙ law.each k
       ∙ ap (row_by row) (sym log)
 
+  ascending_noted : (rows : List R) (n : N) → Ascending key rows → Ascending key (noted key row next rows n)
+  ascending_noted rows n sorted =
+      let own = key_noted key row n in
+      joined key own (below key own rows) (above key own rows) (grown key row next (row_with key own rows) n) (grown_key rows n (row_with key own rows) refl)
+      (AllPairs-filter (λ a b. key a < key b) (λ r. nat_lt (key r) own) rows sorted) (all-below key own rows)
+      (AllPairs-filter (λ a b. key a < key b) (λ r. nat_lt own (key r)) rows sorted) (all-above key own rows)
+
+  -- a noting keeps the order
+  pub order_kept : (rows rows' : Rows R) (n : N) (r : Result (Unit {0}) TableRefusal) → Ascending key rows.taken → Notes key row next rows n r rows' → Ascending key rows'.taken
+  order_kept rows rows' n (Ok done) sorted e =
+      subst (Ascending key) (sym (taken_then (noted key row next rows.taken n) (row_with key (key_noted key row n) rows.taken) rows.free rows' e)) (ascending_noted rows.taken n sorted)
+  order_kept rows rows' n (Err refusal) sorted e = subst (Ascending key) (sym (ap (λ x. x.taken) e.1)) sorted
+
   law_noted : (rows : List R) (ns : List N) (n : N) → Law key row rows ns → Law key row (noted key row next rows n) (ns ++ n ∷ [])
   law_noted rows ns n law = record {
-    ascending =
-        let own = key_noted key row n in
-        joined key own (below key own rows) (above key own rows) (grown key row next (row_with key own rows) n) (grown_key rows n (row_with key own rows) refl)
-        (AllPairs-filter (λ a b. key a < key b) (λ r. nat_lt (key r) own) rows law.ascending) (all-below key own rows)
-        (AllPairs-filter (λ a b. key a < key b) (λ r. nat_lt own (key r)) rows law.ascending) (all-above key own rows);
+    ascending = ascending_noted rows n law.ascending;
     each = λ k. elim (cases_eq k (key_noted key row n)) [
       | inl same ↦ let P : ℕ → Type 0 = λ j. row_with key j (noted key row next rows n) ≡ row_by row (noted_under key row j (ns ++ n ∷ [])) in subst P (sym same) (same_each rows ns n law)
       | inr differ ↦ other_each rows ns n k differ law

@@ -79,6 +79,7 @@ impl<'a, R: Tally> Table<'a, R> {
     // Notes under the key of what is noted: in the key's row, or in a new one, or 31 where all rows are taken.
     pub fn note(&mut self, noting: R::Noting) -> Result<(), TableRefusal>
         ensures noted { Ascending R.key_of (rows_of self.old).taken → Notes R.key_of R.row_of R.next_of (rows_of self.old) noting result (rows_of self.new) }
+        ensures order { Ascending R.key_of (rows_of self.old).taken → Ascending R.key_of (rows_of self.new).taken }
         ensures refused { IfErr result (λ refusal. rows_of self.new ≡ rows_of self.old) }
         ensures lent { self.new.rows.ghost_name ≡ self.old.rows.ghost_name }
     {

@@ -151,7 +151,8 @@ impl<'r, R: Registry> CanonicalCopy<'r, R> {
 
     // Closes the copy: writes the closing word and uses the copy up. Refused, it hands the copy back.
     pub fn close(self, out: &mut [u8]) -> Result<Closed, (Refusal, Self)>
-        ensures { ClosedWith (R.Registry.services self.entry.registry.now) self.entry out.old out.new result }
+        ensures closes { ClosedWith (R.Registry.services self.entry.registry.now) self.entry out.old out.new result }
+        ensures within { IfOk result (λ closed. closed.bytes ≤ length out.old) }
     {
         let closed = match self.state.closed(out.len()) {
             Ok(closed) => closed,

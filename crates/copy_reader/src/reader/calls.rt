@@ -1,6 +1,7 @@
 // Testing a copy, and the calls on its reader.
 ghost use Rattle.std.specs.Prelude.{◌≡◌};
 ghost use Rattle.std.specs.Iterator.{item_count};
+ghost use Rattle.copy_format.specs.ReadingBack.{ByWords};
 ghost use Rattle.copy_reader.specs.Readers.{Back, Steps, left, stream_of};
 
 use super::CopyReader;
@@ -17,7 +18,8 @@ pub fn read_back<'r, 'c, R: Registry>(
     registry: &'r R,
     copy: &'c [u8],
 ) -> Result<CopyReader<'r, 'c, R>, Refusal>
-    ensures { Back registry.now copy.now result }
+    ensures back { Back registry.now copy.now result }
+    ensures words { ByWords }
 {
     if copy.len() > LARGEST_COPY {
         return Err(Refusal::OutputLength);

@@ -19,7 +19,7 @@ returns-in_err-entries g c =
     let law = g.met.R.Registry.lawful c.args.registry.now in
     let p = err_from_is_err_and c.from_residual.result c.from_residual.ensures.1 in
     record {
-      copy = rw (p.1, p.2) (not_read services c.args.recording.now c.args.out.now c.in_err-entries.field-0.0 c.in_err-entries.ensures);
+      copy = rw (p.1, p.2) (not_read services c.args.recording.now c.args.out.now c.in_err-entries.field-0.0 c.in_err-entries.ensures.back);
       within = rw p.1 tt;
       again = same_again services law;
       one = one_copy services law;
@@ -32,7 +32,7 @@ returns-then-not-may_open g c =
     let bytes = All-from_get_or (λ x. x < 256) c.args.recording.now 0 (λ i _. (c.type_inv.recording i).fits) in
     let wrong : may_open (length c.args.out.now) ≡ false = let e = c.may_open.ensures in let h = c.if-not-may_open.true in cc in
     record {
-      copy = wrong_length services law c.args.recording.now bytes _ c.in_ok-entries.ensures.1 c.args.out.now wrong;
+      copy = wrong_length services law c.args.recording.now bytes _ c.in_ok-entries.ensures.back.1 c.args.out.now wrong;
       within = tt;
       again = same_again services law;
       one = one_copy services law;
@@ -43,7 +43,7 @@ fits-requires-clause-served g c =
     let services = g.R.Registry.services c.args.registry.now in
     let law = g.met.R.Registry.lawful c.args.registry.now in
     let bytes = All-from_get_or (λ x. x < 256) c.args.recording.now 0 (λ i _. (c.type_inv.recording i).fits) in
-    let read = c.in_ok-entries.ensures in
+    let read = c.in_ok-entries.ensures.back in
     subst (Served services) (sym (c.again.ensures.left ∙ read.2)) (served services law c.args.recording.now bytes _ read.1 c.args.out.now)
 
 pub returns-then-not-fits : goal.returns-then-not-fits
@@ -51,7 +51,7 @@ returns-then-not-fits g c =
     let services = g.R.Registry.services c.args.registry.now in
     let law = g.met.R.Registry.lawful c.args.registry.now in
     let bytes = All-from_get_or (λ x. x < 256) c.args.recording.now 0 (λ i _. (c.type_inv.recording i).fits) in
-    let read = c.in_ok-entries.ensures in
+    let read = c.in_ok-entries.ensures.back in
     let right : may_open (length c.args.out.now) ≡ true = let e = c.may_open.ensures in let h = c.if-not-may_open.false in cc in
     let full : c.fits.result ≡ false = let h = c.if-not-fits.true in cc in
     let same = ap (λ es. leb ((after_all services nothing es).length + 4) (length c.args.out.now)) (sym (c.again.ensures.left ∙ read.2)) ∙ sym c.fits.ensures ∙ full in
@@ -67,7 +67,7 @@ enter_entries-reached-requires-clause-served g c =
     let services = g.R.Registry.services c.args.registry.now in
     let law = g.met.R.Registry.lawful c.args.registry.now in
     let bytes = All-from_get_or (λ x. x < 256) c.args.recording.now 0 (λ i _. (c.type_inv.recording i).fits) in
-    let read = c.in_ok-entries.ensures in
+    let read = c.in_ok-entries.ensures.back in
     subst (Served services) (sym read.2) (served services law c.args.recording.now bytes _ read.1 c.args.out.now)
 
 pub enter_entries-reached-requires-clause-fits : goal.enter_entries-reached-requires-clause-fits
@@ -82,7 +82,7 @@ returns g c =
     let services = g.R.Registry.services c.args.registry.now in
     let law = g.met.R.Registry.lawful c.args.registry.now in
     let bytes = All-from_get_or (λ x. x < 256) c.args.recording.now 0 (λ i _. (c.type_inv.recording i).fits) in
-    let read = c.in_ok-entries.ensures in
+    let read = c.in_ok-entries.ensures.back in
     let out = c.args.out.now in
     let right : may_open (length c.args.out.now) ≡ true = let e = c.may_open.ensures in let h = c.if-not-may_open.false in cc in
     let enough : c.fits.result ≡ true = let h = c.if-not-fits.false in cc in

@@ -6,8 +6,8 @@ use Rattle.canonical.specs.States.{spliced}
 use Rattle.canonical.proofs.Laws.{lawful}
 use Rattle.canonical.proofs.copy.CanonicalCopy.close.Goals as goal
 
-pub returns : goal.returns
-returns g c =
+pub returns-clause-closes : goal.returns-clause-closes
+returns-clause-closes g c =
     let s = c.args.self.state in
     let out = c.args.out.now in
     let done : Closes s out (Ok c.in-Ok.closed) c.put.new.out =
