@@ -1,5 +1,5 @@
 -- The whole answer of each call on a copy, and what copy and output then hold.
-use Rattle.std.specs.Prelude.{◌≡◌, ℕ, ◌+◌, ◌^◌, ◌<◌, Bool, cond, ◌&&◌, List, [], ◌∷◌, length, is_ok, Some, None, Ok, Err, Option, Result, ◌==◌, nat_le, nat_lt}
+use Rattle.std.specs.Prelude.{◌≡◌, ℕ, ◌+◌, ◌^◌, ◌<◌, ◌≤◌, Bool, cond, ◌&&◌, List, [], ◌∷◌, length, drop, is_ok, Some, None, Ok, Err, Option, Result, ◌==◌, nat_le, nat_lt}
 use Rattle.records.specs.Codes.{code_with, type_of}
 use Rattle.records.specs.Services.{Services, is_served, checked_by}
 use Rattle.records.specs.Tests.{tested, and_then}
@@ -121,3 +121,10 @@ Ends s out (Err refusal) out' = out' ≡ out
 
 abbrev pub Closes : State → List ℕ → Result Closed Refusal → List ℕ → Type 0
 Closes s out r out' = (r ≡ closed s (length out)) × Ends s out r out'
+
+-- what an output holds past the copy, no call changes
+abbrev pub KeepsBeyond : Services → Type 0
+KeepsBeyond services = (s s' : State) (out out' : List ℕ)
+    → ((a : Addition) (r : Result (Unit {0}) Refusal) → Adds services s out a r s' out' → drop s'.extent.length out' ≡ drop s'.extent.length out)
+    × ((packet : List ℕ) (r : Result (Unit {0}) Refusal) → Takes services s out packet r s' out' → drop s'.extent.length out' ≡ drop s'.extent.length out)
+    × ((c : Closed) → s.extent.length + 4 ≤ length out → Closes s out (Ok c) out' → drop c.bytes out' ≡ drop c.bytes out)

@@ -3,7 +3,7 @@ ghost use Rattle.std.specs.Prelude.{◌≡◌, ◌+◌, ◌≤◌, length, Ok as
 ghost use Rattle.records.specs.Codes.{type_of};
 ghost use Rattle.records.specs.Tests.{tested};
 ghost use Rattle.tecmp.specs.Views.{viewed};
-ghost use Rattle.canonical.specs.Calls.{stream_of, opened, addition, add_tests, Adds, taken, Takes};
+ghost use Rattle.canonical.specs.Calls.{stream_of, opened, addition, add_tests, Adds, taken, Takes, KeepsBeyond};
 ghost use Rattle.canonical.specs.States.{after};
 ghost use Rattle.canonical.specs.Copies.{Opened, emptied, Taken, ClosedWith};
 
@@ -153,6 +153,7 @@ impl<'r, R: Registry> CanonicalCopy<'r, R> {
     pub fn close(self, out: &mut [u8]) -> Result<Closed, (Refusal, Self)>
         ensures closes { ClosedWith (R.Registry.services self.entry.registry.now) self.entry out.old out.new result }
         ensures within { IfOk result (λ closed. closed.bytes ≤ length out.old) }
+        ensures beyond { KeepsBeyond (R.Registry.services self.entry.registry.now) }
     {
         let closed = match self.state.closed(out.len()) {
             Ok(closed) => closed,

@@ -3,6 +3,7 @@ use Rattle.copy_format.specs.Image.{word}
 use Rattle.canonical.specs.Calls.{Closes}
 use Rattle.canonical.specs.Extents.{Extent}
 use Rattle.canonical.specs.States.{spliced}
+use Rattle.canonical.proofs.Beyond.{keeps_beyond}
 use Rattle.canonical.proofs.Laws.{lawful}
 use Rattle.canonical.proofs.copy.CanonicalCopy.close.Goals as goal
 
@@ -13,3 +14,9 @@ returns-clause-closes g c =
     let done : Closes s out (Ok c.in-Ok.closed) c.put.new.out =
     (c.in-Ok.ensures, c.put.ensures ∙ ap (spliced out c.extent.inside.length) c.word.ensures ∙ ap (λ (x : Extent). spliced out x.length (word 2 x.entries)) c.extent.view_is) in
     (done, lawful (g.R.Registry.services c.args.self.registry.now) (g.met.R.Registry.lawful c.args.self.registry.now) s out c.in-Ok.closed c.put.new.out done)
+
+pub returns-clause-beyond : goal.returns-clause-beyond
+returns-clause-beyond g c = keeps_beyond (g.R.Registry.services c.args.self.registry.now)
+
+pub returns-in-Err-clause-beyond : goal.returns-in-Err-clause-beyond
+returns-in-Err-clause-beyond g c = keeps_beyond (g.R.Registry.services c.args.self.registry.now)
