@@ -22,7 +22,7 @@ use Rattle.copy_format.specs.ReadingBack.{without_offset}
 use Rattle.copy_format.proofs.Lengths.{room}
 use Rattle.copy_format.proofs.PacketsRead.{served_if}
 use Rattle.canonical.specs.Calls.{stream_of, opened_into, opened, entry_of, reaching, add_tests, Adds}
-use Rattle.canonical.specs.Extents.{Extent}
+use Rattle.canonical.specs.declared.state.Extent.{Extent}
 use Rattle.canonical.specs.Law.{canonical_entry, again, AddsAll}
 use Rattle.canonical.specs.States.{nothing, after, put, after_all, put_all}
 use Rattle.canonical.specs.declared.state.State.{State}

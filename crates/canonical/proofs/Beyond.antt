@@ -13,7 +13,7 @@ use Rattle.copy_format.specs.Image.{packet_head, item_bytes, word, filling}
 use Rattle.copy_format.specs.Items.{Item, item_of, size}
 use Rattle.copy_format.proofs.Lengths.{length-word, length-item, length-packet_head}
 use Rattle.canonical.specs.Calls.{entry_of, Leaves, add_tests, room, listed, entries_in, closing, KeepsBeyond}
-use Rattle.canonical.specs.Extents.{Extent}
+use Rattle.canonical.specs.declared.state.Extent.{Extent}
 use Rattle.canonical.specs.States.{spliced, frame, packet_for, extended, begun, appended, joined_in, after, put, after_all, put_all}
 use Rattle.canonical.specs.declared.state.Closed.{Closed}
 use Rattle.canonical.specs.declared.state.OpenPacket.{OpenPacket}

@@ -1,22 +1,18 @@
 -- Entries read of a recording, entered one after the other. Assumes nothing.
-use Rattle.std.proofs.Common.{◌≡◌, ℕ, ◌+◌, ◌≤◌, false, leb, List, [], ◌∷◌, None, Option, refl, sym, ap, ◌∙◌, subst, arith}
+use Rattle.std.proofs.Common.{◌≡◌, ℕ, ◌+◌, ◌≤◌, false, leb, List, [], ◌∷◌, refl, sym, ap, ◌∙◌, subst, arith}
 use Rattle.std.proofs.lemmas.Bool.Decides.{nat_tests}
 use Rattle.records.specs.Services.{Services}
 use Rattle.tecmp.specs.Reading.{Entry}
 use Rattle.tecmp.specs.declared.head.Stream.{Stream}
-use Rattle.canonical.specs.Extents.{Extent}
+use Rattle.canonical.specs.declared.state.Extent.{Extent}
 use Rattle.canonical.specs.Recopying.{Served}
 use Rattle.canonical.specs.States.{nothing, after, put, after_all, put_all}
-use Rattle.canonical.specs.declared.state.OpenPacket.{OpenPacket}
 use Rattle.canonical.proofs.Growth.{grows_all}
 
 -- what is left: it is served, and leads from here to where all lead
 pub record Leads (services : Services) (all : Extent) (x : Extent) (left : List Entry) : Type 0 where
   pub served : Served services left
   pub reach : all ≡ after_all services x left
-
-pub nothing_yet : (m n k : ℕ) (o : Option OpenPacket) (x : Extent) → record { length = m; entries = n; packets = k; last = o } ≡ x → m ≡ 0 → n ≡ 0 → k ≡ 0 → o ≡ None → x ≡ nothing
-nothing_yet m n k o x e a b c d = sym e ∙ (λ i. record { length = a i; entries = b i; packets = c i; last = d i })
 
 pub starts : (services : Services) (x : Extent) (es left : List Entry) → x ≡ nothing → left ≡ es → Served services es → Leads services (after_all services nothing es) x left
 starts services x es left fresh same served = record {

@@ -11,7 +11,7 @@ use Rattle.copy_format.specs.Image.{packet_limit, packets_of}
 use Rattle.copy_format.specs.Items.{item_of, size}
 use Rattle.canonical.specs.Sound.{end_of}
 use Rattle.canonical.specs.States.{frame, extended, joined_by, after, put, after_all, put_all}
-use Rattle.canonical.specs.Extents.{Extent}
+use Rattle.canonical.specs.declared.state.Extent.{Extent}
 use Rattle.canonical.specs.declared.state.OpenPacket.{OpenPacket}
 use Rattle.canonical.proofs.Accepted.{Accepted}
 use Rattle.canonical.proofs.Ready.{room_tail}

@@ -16,7 +16,7 @@ use Rattle.copy_format.specs.Cutting.{Passes}
 use Rattle.copy_format.proofs.Lengths.{room, length-packet_head}
 use Rattle.copy_format.proofs.Packets.{joins}
 use Rattle.canonical.specs.States.{frame, packet_for, packets_with, extended, begun, appended, joined_by, joined_in, after, put}
-use Rattle.canonical.specs.Extents.{Extent}
+use Rattle.canonical.specs.declared.state.Extent.{Extent}
 use Rattle.canonical.specs.declared.state.OpenPacket.{OpenPacket}
 use Rattle.canonical.proofs.Accepted.{Accepted, may_stand, shares_as, packets_more, packets_pass}
 use Rattle.canonical.proofs.Places.{length-spliced}

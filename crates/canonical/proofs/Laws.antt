@@ -20,7 +20,7 @@ use Rattle.copy_format.proofs.Packets.{fewest_packets}
 use Rattle.copy_format.proofs.PacketsRead.{Narrow}
 use Rattle.copy_format.proofs.Placed.{packets_read, length-packets_placed}
 use Rattle.canonical.specs.Calls.{opened, reaching, closing, Closes}
-use Rattle.canonical.specs.Extents.{Extent}
+use Rattle.canonical.specs.declared.state.Extent.{Extent}
 use Rattle.canonical.specs.Law.{canonical_entry, AddedAgain, Cuts, AnyLog}
 use Rattle.canonical.specs.Log.{Log}
 use Rattle.canonical.specs.States.{nothing, spliced, after_all, put_all}

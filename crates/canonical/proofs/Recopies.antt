@@ -19,7 +19,7 @@ use Rattle.copy_format.specs.ReadingBack.{Contents, entries_of, read_back}
 use Rattle.copy_format.proofs.Lengths.{length-word, length-copy}
 use Rattle.copy_format.proofs.PacketsRead.{Narrow}
 use Rattle.canonical.specs.Calls.{may_open, stream_of, reaching, closing}
-use Rattle.canonical.specs.Extents.{Extent}
+use Rattle.canonical.specs.declared.state.Extent.{Extent}
 use Rattle.canonical.specs.Log.{Faithful}
 use Rattle.canonical.specs.Recopying.{Served, canonical_bytes, closed_of, recopied_into, recopied, Written, Recopies}
 use Rattle.canonical.specs.States.{nothing, spliced, after_all, put_all}

@@ -14,7 +14,7 @@ use Rattle.tecmp.specs.declared.packet.Packet.{Packet}
 use Rattle.tecmp.proofs.Walks.{by_packet, no_head}
 use Rattle.canonical.specs.Calls.{room, taken, listed}
 use Rattle.canonical.specs.Copies.{Taken}
-use Rattle.canonical.specs.Extents.{Extent}
+use Rattle.canonical.specs.declared.state.Extent.{Extent}
 use Rattle.canonical.specs.States.{after_all}
 use Rattle.canonical.specs.Surveys.{surveyed}
 use Rattle.canonical.specs.declared.copy.CanonicalCopy.{CanonicalCopy}

@@ -4,7 +4,7 @@ use Rattle.records.specs.Services.{Services}
 use Rattle.tecmp.specs.Entries.{Entries, before}
 use Rattle.tecmp.specs.Reading.{Entry}
 use Rattle.canonical.specs.Calls.{listed}
-use Rattle.canonical.specs.Extents.{Extent}
+use Rattle.canonical.specs.declared.state.Extent.{Extent}
 use Rattle.canonical.specs.States.{after}
 use Rattle.canonical.specs.Surveys.{surveyed}
 

@@ -15,7 +15,7 @@ use Rattle.tecmp.specs.declared.head.Stream.{Stream}
 use Rattle.copy_format.specs.Image.{word}
 use Rattle.canonical.specs.States.{nothing, after_all, after, put_all, spliced}
 use Rattle.canonical.specs.declared.state.Closed.{Closed}
-use Rattle.canonical.specs.Extents.{Extent}
+use Rattle.canonical.specs.declared.state.Extent.{Extent}
 use Rattle.canonical.specs.declared.state.State.{State}
 
 -- open: a logged copy is of a module up to 255, a replay copy of module 0

@@ -1,6 +1,5 @@
 pub mod Calls
 pub mod Copies
-pub mod Extents
 pub mod Law
 pub mod Log
 pub mod Recopying

@@ -2,7 +2,7 @@
 use Rattle.std.specs.Prelude.{◌≡◌, ℕ, ◌+◌, ◌*◌, ◌≤◌, Some, None, Option}
 use Rattle.canonical.specs.States.{frame}
 use Rattle.canonical.specs.declared.state.OpenPacket.{OpenPacket}
-use Rattle.canonical.specs.Extents.{Extent}
+use Rattle.canonical.specs.declared.state.Extent.{Extent}
 
 -- where the last packet ends, and its bytes; where there is none, what stands for them
 abbrev pub end_of : ℕ → Option OpenPacket → ℕ

@@ -6,7 +6,7 @@ use Rattle.tecmp.specs.declared.head.Stream.{Stream}
 use Rattle.copy_format.specs.Image.{packet_limit, packet_head, item_bytes, word, filling}
 use Rattle.copy_format.specs.Items.{Item, item_of, size}
 use Rattle.canonical.specs.declared.state.OpenPacket.{OpenPacket}
-use Rattle.canonical.specs.Extents.{Extent}
+use Rattle.canonical.specs.declared.state.Extent.{Extent}
 
 -- a packet of n bytes with its word and its filling
 abbrev pub frame : ℕ → ℕ

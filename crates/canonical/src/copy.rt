@@ -1,5 +1,6 @@
 // A canonical copy, and the calls on it.
 ghost use Rattle.std.specs.Prelude.{◌+◌, ◌≤◌};
+ghost use Rattle.canonical.specs.Sound.{Counted};
 
 use crate::state::State;
 
@@ -10,6 +11,7 @@ pub mod calls;
 pub struct CanonicalCopy<'r, R> {
     registry: &'r R,
     state: State,
+    ghost counted: { Counted state.extent },
     ghost within: { state.extent.length + 4 ≤ state.capacity },
     ghost small: { state.capacity ≤ 16777216 },
 }

@@ -6,7 +6,7 @@ ghost use Rattle.canonical.specs.States.{after_all, put_all};
 ghost use Rattle.canonical.specs.Surveys.{surveyed};
 
 use crate::entry::AcceptedEntry;
-use crate::state::Extent;
+use crate::state::Reach;
 use records::refusal::Refusal;
 use records::registry::Registry;
 use tecmp::head::Stream;
@@ -15,8 +15,8 @@ use tecmp::packet::Packet;
 // Looks at every entry of a packet whose head was read, and answers how far the copy would reach. Nothing is written.
 pub(crate) fn survey<R: Registry>(
     packet: &Packet<'_, '_, R>,
-    extent: &Extent,
-) -> Result<Extent, Refusal>
+    extent: &Reach,
+) -> Result<Reach, Refusal>
     requires { (extent.now.length ≤ 16777216) × (length packet.now.bytes.now ≤ 1500) }
     ensures is { result ≡ surveyed (R.Registry.services packet.now.registry.now) extent.now (packet_entries R.Registry.services packet.now 12) }
     ensures bound { IfOk result (λ reached. reached.length ≤ 33554432) }
@@ -33,9 +33,9 @@ pub(crate) fn survey<R: Registry>(
 pub(crate) fn enter_all<R: Registry>(
     packet: &Packet<'_, '_, R>,
     stream: Stream,
-    extent: Extent,
+    extent: Reach,
     out: &mut [u8],
-) -> Extent
+) -> Reach
     requires read { is_ok (packet_entries R.Registry.services packet.now 12) ≡ true }
     requires bounded { (extent.length ≤ 16777216) × (length out.old ≤ 16777216) }
     requires fits { (after_all (R.Registry.services packet.now.registry.now) extent (listed (packet_entries R.Registry.services packet.now 12))).length ≤ length out.old }

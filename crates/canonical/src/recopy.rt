@@ -6,7 +6,7 @@ ghost use Rattle.canonical.specs.States.{nothing, after_all, put_all};
 
 use crate::bytes::{WordKind, put};
 use crate::entry::AcceptedEntry;
-use crate::state::{Closed, Extent, may_open};
+use crate::state::{Closed, Reach, may_open};
 use copy_reader::reader::{CopyReader, read_back};
 use records::refusal::Refusal;
 use records::registry::Registry;
@@ -18,7 +18,7 @@ fn fits<R: Registry>(registry: &R, entries: CopyReader<'_, '_, R>, capacity: usi
     requires bounded { (4 ≤ capacity) × (capacity ≤ 16777216) }
     ensures { result ≡ nat_le ((after_all (R.Registry.services registry.now) nothing (left entries.entry)).length + 4) capacity }
 {
-    let mut reached = Extent::default();
+    let mut reached = Reach::nothing();
     for view in entries {
         reached = reached.extend(&AcceptedEntry::checked(registry, view));
         if !reached.fits(capacity) {
@@ -34,14 +34,14 @@ fn enter_entries<R: Registry>(
     entries: CopyReader<'_, '_, R>,
     stream: Stream,
     out: &mut [u8],
-) -> Extent
+) -> Reach
     requires served { Served (R.Registry.services registry.now) (left entries) }
     requires bounded { length out.old ≤ 16777216 }
     requires fits { (after_all (R.Registry.services registry.now) nothing (left entries)).length + 4 ≤ length out.old }
     ensures extent { result ≡ after_all (R.Registry.services registry.now) nothing (left entries.entry) }
     ensures output { out.new ≡ put_all (R.Registry.services registry.now) stream nothing (left entries.entry) out.old }
 {
-    let mut reached = Extent::default();
+    let mut reached = Reach::nothing();
     for view in entries {
         reached = AcceptedEntry::checked(registry, view).enter(stream, reached, out);
     }
@@ -67,7 +67,7 @@ pub fn recopy<R: Registry>(
         return Err(Refusal::OutputFull);
     }
     let stream = entries.stream();
-    let reached = enter_entries(registry, entries, stream, out);
+    let reached = enter_entries(registry, entries, stream, out).extent();
     put(
         out,
         reached.length,

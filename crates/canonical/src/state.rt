@@ -1,7 +1,8 @@
 // What a copy keeps of what it has written.
 ghost use Rattle.std.specs.Prelude.{◌≡◌, ◌+◌, ◌≤◌, nat_le};
 ghost use Rattle.canonical.specs.Calls.{may_open, closed};
-ghost use Rattle.canonical.specs.States.{frame, takes_entry, packet_for, joined_in, after};
+ghost use Rattle.canonical.specs.Sound.{Counted};
+ghost use Rattle.canonical.specs.States.{nothing, frame, takes_entry, packet_for, joined_in, after};
 ghost use Rattle.tecmp.specs.Views.{viewed};
 
 use crate::entry::AcceptedEntry;
@@ -22,30 +23,35 @@ pub struct OpenPacket {
 }
 
 // How far a copy reaches: its bytes up to where the closing word will stand, its entries and packets.
-// No bound on the length stands here: looking over a packet may lead past the output.
-// Not `Copy`: the checker covers no caller that holds a struct with a `Copy` extent inside.
-#[derive(Default, Drop)]
+#[derive(Clone, Copy, Default)]
 pub struct Extent {
-    pub(crate) length: usize,
-    pub(crate) entries: u32,
-    pub(crate) packets: u32,
-    pub(crate) last: Option<OpenPacket>,
+    pub length: usize,
+    pub entries: u32,
+    pub packets: u32,
+    pub last: Option<OpenPacket>,
 }
 
-impl Model for Extent {
-    ghost use Rattle.canonical.specs.Extents.{Extent};
+// An extent of entries that were counted, which is what the calls here know of it. No bound on the length stands here:
+// looking over a packet may lead past the output. Clauses see the extent.
+#[derive(Drop)]
+pub(crate) struct Reach {
+    pub(crate) extent: Extent,
+}
+
+impl Model for Reach {
+    ghost use Rattle.canonical.specs.declared.state.Extent.{Extent};
     ghost use Rattle.canonical.specs.Sound.{Counted};
 
     ghost Value = { Extent };
 
-    ghost view = { λ x. record { length = x.length; entries = x.entries; packets = x.packets; last = x.last } };
+    ghost view = { λ x. x.extent };
 
-    ghost invariant = { λ x. Counted (record { length = x.length; entries = x.entries; packets = x.packets; last = x.last }) };
+    ghost invariant = { λ x. Counted x.extent };
 
-    ghost inverse = { λ x. record { length = x.length; entries = x.entries; packets = x.packets; last = x.last } };
+    ghost inverse = { λ x. record { extent = x } };
 }
 
-#[derive(Drop)]
+#[derive(Clone, Copy)]
 pub struct State {
     pub stream: Stream,
     // the length of the output at opening
@@ -105,37 +111,6 @@ fn frame_of(size: usize) -> usize
 }
 
 impl Extent {
-    // The same extent once more.
-    pub(crate) fn again(&self) -> Extent
-        ensures { result ≡ self.now }
-    {
-        Extent {
-            length: self.length,
-            entries: self.entries,
-            packets: self.packets,
-            last: self.last,
-        }
-    }
-
-    // The last packet, if the entry joins it.
-    pub(crate) fn joined<R: Registry>(&self, entry: &AcceptedEntry<'_, '_, R>) -> Option<OpenPacket>
-        ensures { result ≡ joined_in (R.Registry.services entry.now.registry.now) self.now (viewed entry.now.view) }
-    {
-        let packet = self.last?;
-        packet.takes(entry).then_some(packet)
-    }
-
-    // The packet that an entry goes into: the one it joins, or a new one, of which only the head is there.
-    pub(crate) fn packet_for(&self, joined: Option<OpenPacket>, data_type: u16) -> OpenPacket
-        ensures { result ≡ packet_for self.now joined data_type }
-    {
-        joined.unwrap_or(OpenPacket {
-            begins: self.length,
-            size: FIRST_ENTRY,
-            data_type,
-        })
-    }
-
     // What closing answers.
     pub(crate) fn closing(&self) -> Closed
         requires { self.now.length ≤ 16777216 }
@@ -147,17 +122,70 @@ impl Extent {
             packets: self.packets,
         }
     }
+}
+
+impl Reach {
+    pub(crate) fn of(extent: Extent) -> Reach
+        requires { Counted extent }
+        ensures { result ≡ extent }
+    {
+        Reach { extent }
+    }
+
+    // Of no entry.
+    pub(crate) fn nothing() -> Reach
+        ensures { result ≡ nothing }
+    {
+        Reach {
+            extent: Extent::default(),
+        }
+    }
+
+    pub(crate) fn extent(&self) -> Extent
+        ensures is { result ≡ self.now }
+        ensures counted { Counted result }
+    {
+        self.extent
+    }
+
+    // The same once more.
+    pub(crate) fn again(&self) -> Reach
+        ensures { result ≡ self.now }
+    {
+        Reach {
+            extent: self.extent,
+        }
+    }
+
+    // The last packet, if the entry joins it.
+    pub(crate) fn joined<R: Registry>(&self, entry: &AcceptedEntry<'_, '_, R>) -> Option<OpenPacket>
+        ensures { result ≡ joined_in (R.Registry.services entry.now.registry.now) self.now (viewed entry.now.view) }
+    {
+        let packet = self.extent.last?;
+        packet.takes(entry).then_some(packet)
+    }
+
+    // The packet that an entry goes into: the one it joins, or a new one, of which only the head is there.
+    pub(crate) fn packet_for(&self, joined: Option<OpenPacket>, data_type: u16) -> OpenPacket
+        ensures { result ≡ packet_for self.now joined data_type }
+    {
+        joined.unwrap_or(OpenPacket {
+            begins: self.extent.length,
+            size: FIRST_ENTRY,
+            data_type,
+        })
+    }
 
     // Whether the copy with a closing word fits an output of so many bytes.
     pub(crate) fn fits(&self, capacity: usize) -> bool
         requires { self.now.length ≤ 33554432 }
         ensures { result ≡ nat_le (self.now.length + 4) capacity }
     {
-        self.length + WORD <= capacity
+        self.extent.length + WORD <= capacity
     }
 
     // How far the copy reaches with the entry more.
-    pub(crate) fn extend<R: Registry>(self, entry: &AcceptedEntry<'_, '_, R>) -> Extent
+    pub(crate) fn extend<R: Registry>(self, entry: &AcceptedEntry<'_, '_, R>) -> Reach
         requires { self.length ≤ 33554432 }
         ensures is { result ≡ after (R.Registry.services entry.now.registry.now) self (viewed entry.now.view) }
         ensures longer { self.length ≤ result.length }
@@ -166,11 +194,12 @@ impl Extent {
         let joined = self.joined(entry);
         let packet = self.packet_for(joined, entry.view.code.data_type);
         let size = packet.size + entry.size();
-        Extent {
+        let extent = Extent {
             length: packet.begins + frame_of(size),
-            entries: self.entries + 1,
-            packets: self.packets + u32::from(joined.is_none()),
+            entries: self.extent.entries + 1,
+            packets: self.extent.packets + u32::from(joined.is_none()),
             last: Some(OpenPacket { size, ..packet }),
-        }
+        };
+        Reach { extent }
     }
 }

@@ -6,21 +6,21 @@ ghost use Rattle.canonical.specs.States.{appended, frame, packet_for, begun, aft
 
 use crate::bytes::{WordKind, entry_head, packet_head, put, put_filling};
 use crate::entry::AcceptedEntry;
-use crate::state::{Extent, OpenPacket};
+use crate::state::{OpenPacket, Reach};
 use copy_format::WORD;
 use records::registry::Registry;
 use tecmp::head::{ENTRY_HEAD, Stream};
 
 impl<R: Registry> AcceptedEntry<'_, '_, R> {
     // Writes the head of a new packet, where the entry joins none.
-    fn begin(&self, stream: Stream, extent: &Extent, joined: Option<OpenPacket>, out: &mut [u8])
+    fn begin(&self, stream: Stream, extent: &Reach, joined: Option<OpenPacket>, out: &mut [u8])
         requires { ((packet_for extent.now joined self.now.view.code.data_type).begins + 16 ≤ length out.old) × (extent.now.packets ≤ 16777216) }
         ensures { out.new ≡ begun stream extent.now joined self.now.view.code.data_type out.old }
     {
         if joined.is_none() {
-            let number = extent.packets + 1;
+            let number = extent.extent.packets + 1;
             let head = packet_head(stream, number, self.view.code.data_type);
-            put(out, extent.length + WORD, &head);
+            put(out, extent.extent.length + WORD, &head);
         }
     }
 
@@ -45,7 +45,7 @@ impl<R: Registry> AcceptedEntry<'_, '_, R> {
     }
 
     // Writes the entry, which fits, and answers how far the copy then reaches.
-    pub(crate) fn enter(&self, stream: Stream, extent: Extent, out: &mut [u8]) -> Extent
+    pub(crate) fn enter(&self, stream: Stream, extent: Reach, out: &mut [u8]) -> Reach
         requires bounded { extent.length ≤ 16777216 }
         requires fits { (after (R.Registry.services self.now.registry.now) extent (viewed self.now.view)).length ≤ length out.old }
         ensures extent { result ≡ after (R.Registry.services self.now.registry.now) extent (viewed self.now.view) }

@@ -55,6 +55,8 @@ fn write_canonical(content: Content, flags: u16, data: &[u8], part: &mut [u8]) -
 }
 
 // Writes seven-bit symbols: the top bit of each byte is 0.
+// Not inlined: among all that a registry's `write` holds, the loop would fetch its part from the stack at each turn.
+#[inline(never)]
 fn write_seven(data: &[u8], part: &mut [u8])
     requires { length part.old ≡ length «data».now }
     ensures { part.new ≡ map low7 «data».now }

@@ -9,10 +9,10 @@ use Rattle.frames.specs.Frames.{Shape, codec as frame_codec}
 use Rattle.kind_analog.specs.Analog.{codec as analog_codec}
 use Rattle.kind_bytes.specs.Layouts.{Layout, codec as bytes_codec, uart, ethernet}
 use Rattle.kind_can.specs.Can.{can_shape, logged_can, logged_can_fd, replay_can, replay_can_fd}
-use Rattle.kind_flexray.specs.FlexRay.{flex_ray_shape}
-use Rattle.kind_lin.specs.Lin.{lin_shape}
+use Rattle.kind_flexray.specs.FlexRay.{flex_ray_verdict}
+use Rattle.kind_lin.specs.Lin.{lin_verdict}
 
--- a code served as a kind of frames, as a kind of plain bytes
+-- a code served as a kind of frames, as a kind of plain bytes; LIN and FlexRay by the verdicts that the worked examples speak of
 abbrev pub frame_service : Bool → Shape → Service
 frame_service shares shape = served shares (verdict_of (frame_codec shape))
 
@@ -24,8 +24,8 @@ abbrev pub logged_service : ℕ → Service
 logged_service t =
     cond (0x02 == t) (frame_service true (can_shape logged_can))
     (cond (0x03 == t) (frame_service true (can_shape logged_can_fd))
-    (cond (0x04 == t) (frame_service true (lin_shape LoggingStream))
-    (cond (0x08 == t) (frame_service true (flex_ray_shape LoggingStream))
+    (cond (0x04 == t) (served true (lin_verdict LoggingStream))
+    (cond (0x08 == t) (served true (flex_ray_verdict LoggingStream))
     (cond (0x10 == t) (bytes_service true uart)
     (cond (0x20 == t) (served true (verdict_of analog_codec))
     (cond (0x80 == t) (bytes_service true ethernet)
@@ -36,8 +36,8 @@ abbrev pub replay_service : ℕ → Service
 replay_service t =
     cond (0x02 == t) (frame_service false (can_shape replay_can))
     (cond (0x03 == t) (frame_service false (can_shape replay_can_fd))
-    (cond (0x04 == t) (frame_service false (lin_shape ReplayData))
-    (cond (0x08 == t) (frame_service true (flex_ray_shape ReplayData))
+    (cond (0x04 == t) (served false (lin_verdict ReplayData))
+    (cond (0x08 == t) (served true (flex_ray_verdict ReplayData))
     unserved)))
 
 abbrev pub service_on : MessageType → ℕ → Service

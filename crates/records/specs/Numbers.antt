@@ -1,5 +1,5 @@
 -- The number and the offset of each refusal.
-use Rattle.std.specs.Prelude.{◌≡◌, ℕ}
+use Rattle.std.specs.Prelude.{◌≡◌, ℕ, Bool, ◌&&◌, ◌==◌, Decides}
 use Rattle.records.specs.declared.refusal.Refusal.{Refusal}
 use Rattle.records.specs.declared.refusal.Refusal.TheVariants.{PacketTooShort, TooLong, Version, MessageType, Module, Segmented, UnknownCode, PastEnd, NoData, NoTime, NotShared, Padding, Record, OutputFull, NoEntries, Opening, OutputLength, MalformedCopy}
 use Rattle.records.specs.declared.refusal.RecordRefusal.{RecordRefusal}
@@ -53,6 +53,10 @@ offset_of MalformedCopy = 0
 -- number and offset tell which refusal it is
 abbrev pub ToldApart : Type 0
 ToldApart = (a b : Refusal) → number_of a ≡ number_of b → offset_of a ≡ offset_of b → a ≡ b
+
+-- `==`, by what it computes: it is the same number and offset, and so the same refusal
+abbrev pub EqualByNumber : (Refusal → Refusal → Bool) → Type 0
+EqualByNumber equal = (a b : Refusal) → (equal a b ≡ (number_of a == number_of b && offset_of a == offset_of b)) × Decides (equal a b) (a ≡ b)
 
 abbrev pub record_number : RecordRefusal → ℕ
 record_number Length = 21

@@ -2,7 +2,7 @@
 pub mod text;
 
 ghost use Rattle.std.specs.Prelude.{◌≡◌, ℕ};
-ghost use Rattle.records.specs.Numbers.{number_of, offset_of, ToldApart, record_number, write_number, lookup_number};
+ghost use Rattle.records.specs.Numbers.{number_of, offset_of, ToldApart, EqualByNumber, record_number, write_number, lookup_number};
 ghost use Rattle.records.specs.declared.refusal.WriteRefusal.TheVariants.{Record};
 
 // What is refused with a number.
@@ -68,6 +68,7 @@ impl Refusal {
     pub fn offset(self) -> usize
         ensures offset { result ≡ offset_of self }
         ensures told_apart { ToldApart }
+        ensures equal { EqualByNumber ⟦<Refusal as PartialEq>⟧.eq }
     {
         match self {
             Refusal::PastEnd { offset }

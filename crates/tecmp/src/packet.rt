@@ -60,19 +60,19 @@ impl<'r, 'p, R: Registry> Packet<'r, 'p, R> {
         if rest.bytes.is_empty() {
             return Ok(None);
         }
-        if offset <= FIRST_ENTRY {
-            return self.read_here(rest);
+        if offset > FIRST_ENTRY {
+            if rest.is_padding() {
+                return if self.bytes.len() > PADDED_LIMIT {
+                    Err(Refusal::Padding { offset })
+                } else {
+                    Ok(None)
+                };
+            }
+            if !self.head.shares {
+                return Err(Refusal::NotShared { offset });
+            }
         }
-        if rest.is_padding() {
-            return if self.bytes.len() > PADDED_LIMIT {
-                Err(Refusal::Padding { offset })
-            } else {
-                Ok(None)
-            };
-        }
-        if !self.head.shares {
-            return Err(Refusal::NotShared { offset });
-        }
+        // the only call of it, so that it is read in place: an answer handed from call to call is copied each time
         self.read_here(rest)
     }
 

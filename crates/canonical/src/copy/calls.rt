@@ -11,7 +11,7 @@ use super::CanonicalCopy;
 use crate::bytes::{WordKind, put};
 use crate::entry::AcceptedEntry;
 use crate::packet::{enter_all, survey};
-use crate::state::{Closed, Extent, State, may_open};
+use crate::state::{Closed, Extent, Reach, State, may_open};
 use records::code::{Code, MessageType};
 use records::kind::DATA_LIMIT;
 use records::refusal::{LookupRefusal, Refusal};
@@ -54,6 +54,13 @@ impl<'r, R: Registry> CanonicalCopy<'r, R> {
         Ok(CanonicalCopy { registry, state })
     }
 
+    // How far the copy reaches.
+    fn reach(&self) -> Reach
+        ensures { result ≡ self.now.state.extent }
+    {
+        Reach::of(self.state.extent)
+    }
+
     // Tests an entry to be added, with an output of so many bytes.
     fn judge<'p>(
         &self,
@@ -85,7 +92,7 @@ impl<'r, R: Registry> CanonicalCopy<'r, R> {
                 LookupRefusal::Kind(_) => Refusal::Record { offset },
             },
         )?;
-        if !state.extent.again().extend(&accepted).fits(state.capacity) {
+        if !self.reach().extend(&accepted).fits(state.capacity) {
             return Err(Refusal::OutputFull);
         }
         Ok(accepted)
@@ -118,7 +125,7 @@ impl<'r, R: Registry> CanonicalCopy<'r, R> {
             data_offset: 0,
         };
         let accepted = self.judge(out.len(), entry)?;
-        self.state.extent = accepted.enter(stream, self.state.extent.again(), out);
+        self.state.extent = accepted.enter(stream, self.reach(), out).extent();
         Ok(())
     }
 
@@ -132,7 +139,7 @@ impl<'r, R: Registry> CanonicalCopy<'r, R> {
             return Err(Refusal::OutputLength);
         }
         let packet = Packet::open(self.registry, Some(state.stream), bytes)?;
-        let reached = survey(&packet, &state.extent)?;
+        let reached = survey(&packet, &self.reach())?;
         if !reached.fits(state.capacity) {
             return Err(Refusal::OutputFull);
         }
@@ -145,7 +152,7 @@ impl<'r, R: Registry> CanonicalCopy<'r, R> {
         ensures registry { self.new.registry ≡ self.old.registry }
     {
         let packet = self.judge_packet(out.len(), packet)?;
-        self.state.extent = enter_all(&packet, self.state.stream, self.state.extent.again(), out);
+        self.state.extent = enter_all(&packet, self.state.stream, self.reach(), out).extent();
         Ok(())
     }
 
@@ -159,7 +166,7 @@ impl<'r, R: Registry> CanonicalCopy<'r, R> {
             Ok(closed) => closed,
             Err(refusal) => return Err((refusal, self)),
         };
-        let extent = &self.state.extent;
+        let extent = self.state.extent;
         put(out, extent.length, &WordKind::Closing.word(extent.entries));
         Ok(closed)
     }

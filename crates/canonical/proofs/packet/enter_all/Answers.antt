@@ -6,7 +6,7 @@ use Rattle.tecmp.specs.declared.packet.Packet.{Packet}
 use Rattle.tecmp.proofs.Walks.{Stepped, step_ok}
 use Rattle.canonical.specs.Calls.{listed}
 use Rattle.canonical.specs.States.{after, put, after_all, put_all}
-use Rattle.canonical.specs.Extents.{Extent}
+use Rattle.canonical.specs.declared.state.Extent.{Extent}
 use Rattle.canonical.proofs.Growth.{grows_all}
 use Rattle.canonical.proofs.Walked.{listed_more}
 use Rattle.canonical.proofs.packet.enter_all.Given.{Over}

@@ -4,7 +4,7 @@ use Rattle.tecmp.specs.Views.{viewed}
 use Rattle.tecmp.proofs.Walks.{step_ok}
 use Rattle.canonical.specs.States.{after}
 use Rattle.canonical.specs.Surveys.{surveyed}
-use Rattle.canonical.specs.Extents.{Extent}
+use Rattle.canonical.specs.declared.state.Extent.{Extent}
 use Rattle.canonical.proofs.Walked.{surveyed_more}
 use Rattle.canonical.proofs.packet.survey.Goals as goal
 

@@ -1,18 +1,17 @@
 use Rattle.std.proofs.Common.{List, ℕ, length, sym, ap, ap₂, ◌∙◌, arith}
 use Rattle.copy_reader.specs.Readers.{left}
 use Rattle.tecmp.specs.Views.{viewed}
-use Rattle.canonical.specs.Extents.{Extent}
+use Rattle.canonical.specs.declared.state.Extent.{Extent}
 use Rattle.canonical.specs.States.{after, put, put_all}
-use Rattle.canonical.proofs.Entered.{nothing_yet, starts, here, further, ended, fits_on, put_further}
+use Rattle.canonical.proofs.Entered.{starts, here, further, ended, fits_on, put_further}
 use Rattle.canonical.proofs.recopy.enter_entries.Goals as goal
 
 pub loop-view-init : goal.loop-view-init
 loop-view-init g c =
     let services = g.R.Registry.services c.args.registry.now in
-    let d = c.default-reached.ensures in
-    let fresh = nothing_yet _ _ _ _ c.default-reached.result d.1 d.2.0 d.2.1.0 d.2.1.1.0 d.2.1.1.1 in
+    let fresh = c.nothing-reached.ensures in
     let same = ap left c.into_iter-view-iterator.ensures.into_iter_gives in
-    let lead = starts services c.default-reached.result (left c.args.entries) _ fresh same c.requires.served in (
+    let lead = starts services c.nothing-reached.result (left c.args.entries) _ fresh same c.requires.served in (
       tt,
       tt,
       lead,

@@ -2,17 +2,16 @@ use Rattle.std.proofs.Common.{◌≡◌, ◌+◌, true, false, leb, sym, ap, ap�
 use Rattle.std.proofs.lemmas.Bool.{leb-true, le-leb}
 use Rattle.copy_reader.specs.Readers.{left}
 use Rattle.tecmp.specs.Views.{viewed}
-use Rattle.canonical.specs.Extents.{Extent}
+use Rattle.canonical.specs.declared.state.Extent.{Extent}
 use Rattle.canonical.specs.States.{after}
-use Rattle.canonical.proofs.Entered.{nothing_yet, starts, here, further, longer, ended, too_long}
+use Rattle.canonical.proofs.Entered.{starts, here, further, longer, ended, too_long}
 use Rattle.canonical.proofs.recopy.fits.Goals as goal
 
 pub loop-view-init : goal.loop-view-init
 loop-view-init g c =
-    let d = c.default-reached.ensures in
-    let fresh = nothing_yet _ _ _ _ c.default-reached.result d.1 d.2.0 d.2.1.0 d.2.1.1.0 d.2.1.1.1 in
+    let fresh = c.nothing-reached.ensures in
     let same = ap left c.into_iter-view-iterator.ensures.into_iter_gives in
-    let lead = starts (g.R.Registry.services c.args.registry.now) c.default-reached.result (left c.args.entries) _ fresh same c.requires.served in
+    let lead = starts (g.R.Registry.services c.args.registry.now) c.nothing-reached.result (left c.args.entries) _ fresh same c.requires.served in
     (tt, tt, lead, omega (arith, ap (λ (x : Extent). x.length) fresh, c.requires.bounded.0))
 
 pub checked-requires : goal.checked-requires

@@ -5,7 +5,7 @@ use Rattle.std.proofs.lemmas.Bool.{leb-true}
 use Rattle.copy_format.specs.Cutting.{flat}
 use Rattle.copy_format.specs.Image.{word}
 use Rattle.canonical.specs.Calls.{may_open, closing}
-use Rattle.canonical.specs.Extents.{Extent}
+use Rattle.canonical.specs.declared.state.Extent.{Extent}
 use Rattle.canonical.specs.declared.state.Closed.{Closed}
 use Rattle.canonical.specs.Recopying.{Served}
 use Rattle.canonical.specs.States.{nothing, spliced, after_all, put_all}
@@ -62,16 +62,16 @@ returns-then-not-fits g c =
       one = one_copy services law;
     }
 
-pub enter_entries-reached-requires-clause-served : goal.enter_entries-reached-requires-clause-served
-enter_entries-reached-requires-clause-served g c =
+pub enter_entries-requires-clause-served : goal.enter_entries-requires-clause-served
+enter_entries-requires-clause-served g c =
     let services = g.R.Registry.services c.args.registry.now in
     let law = g.met.R.Registry.lawful c.args.registry.now in
     let bytes = All-from_get_or (λ x. x < 256) c.args.recording.now 0 (λ i _. (c.type_inv.recording i).fits) in
     let read = c.in_ok-entries.ensures.back in
     subst (Served services) (sym read.2) (served services law c.args.recording.now bytes _ read.1 c.args.out.now)
 
-pub enter_entries-reached-requires-clause-fits : goal.enter_entries-reached-requires-clause-fits
-enter_entries-reached-requires-clause-fits g c =
+pub enter_entries-requires-clause-fits : goal.enter_entries-requires-clause-fits
+enter_entries-requires-clause-fits g c =
     let services = g.R.Registry.services c.args.registry.now in
     let enough : c.fits.result ≡ true = let h = c.if-not-fits.false in cc in
     let same = ap (λ es. leb ((after_all services nothing es).length + 4) (length c.args.out.now)) (sym c.again.ensures.left) ∙ sym c.fits.ensures ∙ enough in
@@ -87,13 +87,13 @@ returns g c =
     let right : may_open (length c.args.out.now) ≡ true = let e = c.may_open.ensures in let h = c.if-not-may_open.false in cc in
     let enough : c.fits.result ≡ true = let h = c.if-not-fits.false in cc in
     let room = ap (λ es. leb ((after_all services nothing es).length + 4) (length c.args.out.now)) (sym (c.again.ensures.left ∙ read.2)) ∙ sym c.fits.ensures ∙ enough in
-    let extent = c.enter_entries-reached.ensures.extent ∙ ap (after_all services nothing) read.2 in
+    let extent = c.extent-reached.ensures.is ∙ c.enter_entries.ensures.extent ∙ ap (after_all services nothing) read.2 in
     let closings = c.closing.ensures ∙ ap (λ (x : Extent). closing (record { stream = c.stream-stream.result; capacity = length out; extent = x })) extent in
-    let o : List ℕ = c.enter_entries-reached.new.out in
-    let filled = c.enter_entries-reached.ensures.output ∙ ap₂ {C = List ℕ} (λ stream es. put_all services stream nothing es out) c.stream-stream.ensures read.2 in
+    let o : List ℕ = c.enter_entries.new.out in
+    let filled = c.enter_entries.ensures.output ∙ ap₂ {C = List ℕ} (λ stream es. put_all services stream nothing es out) c.stream-stream.ensures read.2 in
     let outputs = c.put.ensures
-    ∙ ap (spliced o c.reached.inside.length) c.word.ensures
-    ∙ ap (λ (x : Extent). spliced o x.length (word 2 x.entries)) (c.reached.view_is ∙ extent)
+    ∙ ap (spliced o c.extent-reached.result.length) c.word.ensures
+    ∙ ap (λ (x : Extent). spliced o x.length (word 2 x.entries)) extent
     ∙ ap (λ p. spliced p (after_all services nothing (flat read.0)).length (word 2 (after_all services nothing (flat read.0)).entries)) filled in
     record {
       copy = copied_as services law c.args.recording.now bytes _ read.1 out right room _ _ closings outputs;

@@ -1,7 +1,5 @@
 use Rattle.std.proofs.Common.{Ok, ap, ◌∙◌}
-use Rattle.copy_format.specs.Image.{word}
 use Rattle.canonical.specs.Calls.{Closes}
-use Rattle.canonical.specs.Extents.{Extent}
 use Rattle.canonical.specs.States.{spliced}
 use Rattle.canonical.proofs.Beyond.{keeps_beyond}
 use Rattle.canonical.proofs.Laws.{lawful}
@@ -12,7 +10,7 @@ returns-clause-closes g c =
     let s = c.args.self.state in
     let out = c.args.out.now in
     let done : Closes s out (Ok c.in-Ok.closed) c.put.new.out =
-    (c.in-Ok.ensures, c.put.ensures ∙ ap (spliced out c.extent.inside.length) c.word.ensures ∙ ap (λ (x : Extent). spliced out x.length (word 2 x.entries)) c.extent.view_is) in
+    (c.in-Ok.ensures, c.put.ensures ∙ ap (spliced out s.extent.length) c.word.ensures) in
     (done, lawful (g.R.Registry.services c.args.self.registry.now) (g.met.R.Registry.lawful c.args.self.registry.now) s out c.in-Ok.closed c.put.new.out done)
 
 pub returns-clause-beyond : goal.returns-clause-beyond
